@@ -1,0 +1,85 @@
+-- The one law of the table's order, for any rows that rise: a number is given exactly when a row of it holds and no row of a
+-- smaller number does. A row that holds stops the choice, and the rows behind it have no smaller number. Assumes nothing.
+use mathlib.Core.Path.{_≡_, refl, sym, _∙_, ap, subst}
+use mathlib.Core.Bool.{Bool, true, false, _&&_}
+use mathlib.Core.List.{List, [], _∷_}
+use mathlib.Core.Logic.{_↔_}
+use Prim.Native.Nat.{ℕ, _≤_, _<_}
+use native.Mathlib.Nat.{le-trans}
+use native.Mathlib.Omega.{arith}
+use lib.Dec.{T, leb, leb→le}
+use Rattle.refusal.specs.declared.Refusal.{Refusal}
+use Rattle.refusal.specs.Number.{numberOf, blamedOf}
+use Rattle.refusal.specs.Rows.{Said, gives, refuses, Row, row, numberAt, holdsAt, firstRow, risingFrom, rising, Holds, here, later}
+
+-- number n is given by these rows, whatever the value would be
+pub Given : {A : Type 0} → A → ℕ → List Row → Type 0
+Given value n rows = (blamed : ℕ) × (firstRow rows (gives value) ≡ refuses n blamed)
+
+-- no row of a smaller number holds
+pub NoneBelow : ℕ → List Row → Type 0
+NoneBelow n rows = (m : ℕ) → m < n → Holds m rows → ⊥
+
+and-left : (a b : Bool) → T (a && b) → T a
+and-left true b t = tt
+and-left false b t = t
+
+and-right : (a b : Bool) → T (a && b) → T b
+and-right true b t = t
+and-right false b t = absurd t
+
+-- rows that rise from k have no row below k
+from : (k : ℕ) (rows : List Row) → T (risingFrom k rows) → (m : ℕ) → Holds m rows → k ≤ m
+from k (x ∷ rows) rises m (here y ys number holds) =
+    subst (λ (n : ℕ). k ≤ n) number (leb→le k (numberAt x) (and-left (leb k (numberAt x)) (risingFrom (numberAt x) rows) rises))
+from k (x ∷ rows) rises m (later y ys h) =
+    le-trans (leb→le k (numberAt x) (and-left (leb k (numberAt x)) (risingFrom (numberAt x) rows) rises))
+    (from (numberAt x) rows (and-right (leb k (numberAt x)) (risingFrom (numberAt x) rows) rises) m h)
+
+-- so the first row has the least number
+first-least : (k : ℕ) (x : Row) (rows : List Row) → T (risingFrom k (x ∷ rows)) → (m : ℕ) → Holds m (x ∷ rows) → numberAt x ≤ m
+first-least k x rows rises m (here y ys number holds) = omega arith
+first-least k x rows rises m (later y ys h) =
+    from (numberAt x) rows (and-right (leb k (numberAt x)) (risingFrom (numberAt x) rows) rises) m h
+
+not-held : (r : Refusal) (rows : List Row) (n : ℕ) → Holds n (row r false ∷ rows) → Holds n rows
+not-held r rows n (here x xs number holds) = let z : _≡_ {A = ℕ} 0 1 = cc in absurd (omega arith)
+not-held r rows n (later x xs h) = h
+
+module _ {A : Type 0} (value : A) where
+  number-same : {m n b c : ℕ} → _≡_ {A = Said A} (refuses m b) (refuses n c) → m ≡ n
+  number-same e = cc
+
+  no-value : {n b : ℕ} → _≡_ {A = Said A} (gives value) (refuses n b) → ⊥
+  no-value e = let z : _≡_ {A = ℕ} 0 1 = cc in omega arith
+
+  given-holds : (n : ℕ) (rows : List Row) → Given value n rows → Holds n rows
+  unfolding Given
+  given-holds n [] (b, e) = absurd (no-value e)
+  given-holds n (row r true ∷ rows) (b, e) = here (row r true) rows (number-same e) refl
+  given-holds n (row r false ∷ rows) (b, e) = later (row r false) rows (given-holds n rows (b, e))
+
+  given-below : (k n : ℕ) (rows : List Row) → T (risingFrom k rows) → Given value n rows → NoneBelow n rows
+  unfolding Given NoneBelow
+  given-below k n [] rises (b, e) m less h = absurd (no-value e)
+  given-below k n (row r true ∷ rows) rises (b, e) m less h =
+      let first : numberOf r ≤ m = first-least k (row r true) rows rises m h in
+      let same : numberOf r ≡ n = number-same e in omega arith
+  given-below k n (row r false ∷ rows) rises (b, e) m less h =
+      given-below (numberOf r) n rows (and-right (leb k (numberOf r)) (risingFrom (numberOf r) rows) rises) (b, e) m less (not-held r rows m h)
+
+  holds-given : (k n : ℕ) (rows : List Row) → T (risingFrom k rows) → Holds n rows → NoneBelow n rows → Given value n rows
+  unfolding Given NoneBelow
+  holds-given k n (row r true ∷ rows) rises h none =
+      let first : numberOf r ≤ n = first-least k (row r true) rows rises n h in
+      let held : Holds (numberOf r) (row r true ∷ rows) = here (row r true) rows refl refl in
+      let least : numberOf r < n → ⊥ = λ less. none (numberOf r) less held in
+      let same : numberOf r ≡ n = omega arith in (blamedOf r, ap (λ (m : ℕ). refuses m (blamedOf r)) same)
+  holds-given k n (row r false ∷ rows) rises h none =
+      holds-given (numberOf r) n rows (and-right (leb k (numberOf r)) (risingFrom (numberOf r) rows) rises) (not-held r rows n h)
+      (λ m less held. none m less (later (row r false) rows held))
+
+  -- THE LAW: for rows in the table's order, number n is given exactly when a row of n holds and no row of a smaller number does
+  pub exactly-when : (n : ℕ) (rows : List Row) → T (rising rows) → Given value n rows ↔ (Holds n rows × NoneBelow n rows)
+  exactly-when n rows rises =
+      (λ given. (given-holds n rows given, given-below 1 n rows rises given), λ h. holds-given 1 n rows rises (h .0) (h .1))

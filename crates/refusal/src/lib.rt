@@ -1,0 +1,101 @@
+// The refusals of document 01's table, and the answer of a check.
+ghost use mathlib.Core.Path.{_≡_};
+ghost use Rattle.refusal.specs.Number.{placeOf, numberOf, blamedOf};
+
+// Which of a call's two dates a refusal blames.
+pub enum Blamed {
+    First,
+    Second,
+}
+
+// One case for each row of the table, in its order.
+pub enum Refusal {
+    // 1: the mode isn't 0 to 6
+    Mode,
+    // 2: a scale is over 6, or isn't the currency's own digits where it must be
+    Scale,
+    // 3: a given coefficient or net total is over L, or a plain numerator over 10^18
+    Magnitude,
+    // 4: a currency number is over 20
+    Unknown,
+    // 5: two currencies that must agree differ
+    Differ,
+    // 6: a divisor, a rate or the basis is outside its limits
+    Rate,
+    // 7: a date doesn't exist or its year isn't 1900 to 2199
+    Date(Blamed),
+    // 8: the end is before the start, or the day count is over 366
+    Days,
+    // 9: weights break their rule
+    Weights,
+    // 10: a posting, a refund or a given net total is negative
+    Negative,
+    // 11: the lent output has fewer places than there are weights
+    Room,
+    // 12: a refund is greater than the net total
+    Refund,
+    // 13: the result, the euro step or the new net total is over L
+    Limit,
+}
+
+// The answer of a check: nothing to refuse, or the first row that holds.
+pub enum Checked {
+    Passed,
+    Refused(Refusal),
+}
+
+impl Blamed {
+    // 1 for the first date, 2 for the second.
+    pub fn place(self) -> u8
+        ensures { λ r. ⌜ r ≡ placeOf self ⌝ }
+    {
+        match self {
+            Blamed::First => 1,
+            Blamed::Second => 2,
+        }
+    }
+}
+
+impl Refusal {
+    // The table's number.
+    pub fn number(self) -> u8
+        ensures { λ r. ⌜ r ≡ numberOf self ⌝ }
+    {
+        match self {
+            Refusal::Mode => 1,
+            Refusal::Scale => 2,
+            Refusal::Magnitude => 3,
+            Refusal::Unknown => 4,
+            Refusal::Differ => 5,
+            Refusal::Rate => 6,
+            Refusal::Date(_) => 7,
+            Refusal::Days => 8,
+            Refusal::Weights => 9,
+            Refusal::Negative => 10,
+            Refusal::Room => 11,
+            Refusal::Refund => 12,
+            Refusal::Limit => 13,
+        }
+    }
+
+    // The date that is blamed: 1 the first, 2 the second, 0 where no date is.
+    pub fn blamed(self) -> u8
+        ensures { λ r. ⌜ r ≡ blamedOf self ⌝ }
+    {
+        match self {
+            Refusal::Date(d) => d.place(),
+            Refusal::Mode => 0,
+            Refusal::Scale => 0,
+            Refusal::Magnitude => 0,
+            Refusal::Unknown => 0,
+            Refusal::Differ => 0,
+            Refusal::Rate => 0,
+            Refusal::Days => 0,
+            Refusal::Weights => 0,
+            Refusal::Negative => 0,
+            Refusal::Room => 0,
+            Refusal::Refund => 0,
+            Refusal::Limit => 0,
+        }
+    }
+}

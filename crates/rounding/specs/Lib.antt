@@ -1,0 +1,3 @@
+pub mod Modes
+pub mod Leaf
+pub mod Plain

@@ -1,0 +1,4 @@
+mod Signs
+pub mod Laws
+pub mod Sums
+pub mod Keys
