@@ -13,11 +13,11 @@ use Rattle.refusal.specs.Number.{numberOf, blamedOf}
 use Rattle.refusal.specs.Rows.{Said, gives, refuses, Row, row, numberAt, holdsAt, firstRow, risingFrom, rising, Holds, here, later}
 
 -- number n is given by these rows, whatever the value would be
-pub Given : {A : Type 0} → A → ℕ → List Row → Type 0
+unfoldable pub Given : {A : Type 0} → A → ℕ → List Row → Type 0
 Given value n rows = (blamed : ℕ) × (firstRow rows (gives value) ≡ refuses n blamed)
 
 -- no row of a smaller number holds
-pub NoneBelow : ℕ → List Row → Type 0
+unfoldable pub NoneBelow : ℕ → List Row → Type 0
 NoneBelow n rows = (m : ℕ) → m < n → Holds m rows → ⊥
 
 and-left : (a b : Bool) → T (a && b) → T a

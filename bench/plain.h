@@ -1,0 +1,29 @@
+/* Plain C versions of what the library computes, for the ratios of bench/: the same rules, no proof, no checks beyond the rules' own. */
+#ifndef PLAIN_H
+#define PLAIN_H
+#include <stddef.h>
+#include <stdint.h>
+
+#define PLAIN_L UINT64_C(99999999999)
+
+/* n / d under a mode, 0 to 6; *refusal is 0 or the number */
+int64_t plain_round(uint8_t mode, int64_t n, uint64_t d, int *refusal);
+
+/* an amount in currency `from` at its own digits to currency `to` */
+int64_t plain_convert(uint8_t from, uint8_t scale, int64_t n, uint8_t to, int *refusal);
+
+typedef struct { uint16_t year; uint8_t month, day; } plain_date;
+int64_t plain_interest(int64_t principal, uint32_t rate, uint8_t basis, plain_date start, plain_date end, uint8_t mode, int *refusal);
+
+/* one-off sharing by largest remainder */
+int plain_share(int64_t n, const uint32_t *weights, size_t count, int64_t *out, size_t room);
+
+typedef struct { uint8_t currency, count; uint32_t weights[16]; int64_t net; } plain_book;
+
+/* the running totals at n: unit by unit (the first form), and by the shares (the second form) */
+void plain_totals_by_unit(const uint32_t weights[16], uint64_t n, uint64_t totals[16]);
+void plain_totals_by_share(const uint32_t weights[16], uint64_t n, uint64_t totals[16]);
+
+/* one posting; `by_unit` chooses the form */
+int plain_post(plain_book *book, int64_t amount, uint64_t payouts[16], int by_unit);
+#endif

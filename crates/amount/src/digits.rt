@@ -1,0 +1,16 @@
+// A currency's own digits, which conversions and the book ask for.
+use crate::Currency;
+use crate::table::line_of;
+ghost use mathlib.Core.Path.{_≡_};
+ghost use Rattle.amount.specs.Digits.{notOwnDigits};
+
+// An amount in a known currency isn't at its own digits.
+pub fn not_own_digits(currency: u8, scale: u8) -> bool
+    ensures { λ r. ⌜ r ≡ notOwnDigits currency scale ⌝ }
+{
+    if Currency::LAST < currency {
+        return false;
+    }
+    let line = line_of(Currency(currency));
+    scale != line.digits
+}

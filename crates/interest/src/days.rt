@@ -1,0 +1,82 @@
+// The days between two dates by a basis.
+use crate::Date;
+use crate::DayCount;
+use crate::calendar::date_exists;
+use crate::calendar::day_number;
+use refusal::Blamed;
+use refusal::Checked;
+use refusal::Refusal;
+ghost use mathlib.Core.Path.{_≡_};
+ghost use Prim.Native.Nat.{min};
+ghost use Rattle.refusal.specs.Rows.{checkOf};
+ghost use Rattle.interest.specs.DayCount.{thirty, basisOf};
+ghost use Rattle.interest.specs.DaysSaid.{InOrder, daysRows, meansDays, daysSaid};
+
+fn least(a: u8, b: u8) -> u32
+    ensures { λ r. ⌜ r ≡ min a b ⌝ }
+{
+    if a < b { a as u32 } else { b as u32 }
+}
+
+// The days of 30/360: a day 31 becomes 30.
+fn thirty_days(start: Date, end: Date) -> u32
+    requires { ⌜ InOrder start end ⌝ }
+    ensures { λ r. ⌜ r ≡ thirty start end ⌝ }
+{
+    let from = 360 * start.year as u32 + 30 * start.month as u32 + least(start.day, 30);
+    let to = 360 * end.year as u32 + 30 * end.month as u32 + least(end.day, 30);
+    to - from
+}
+
+// The day count of the basis.
+pub(crate) fn count_of(basis: u8, start: Date, end: Date) -> u32
+    requires { ⌜ InOrder start end ⌝ }
+    ensures { λ r. ⌜ r ≡ basisOf basis .count start end ⌝ }
+{
+    match basis {
+        2 => thirty_days(start, end),
+        _ => day_number(end) - day_number(start),
+    }
+}
+
+// The year of the basis.
+pub(crate) fn year_of(basis: u8) -> u64
+    ensures { λ r. ⌜ r ≡ basisOf basis .year ⌝ }
+{
+    match basis {
+        1 => 365,
+        _ => 360,
+    }
+}
+
+// The rows of a day count, in the table's order.
+pub(crate) fn check_days(basis: u8, start: Date, end: Date) -> Checked
+    ensures { λ r. ⌜ r ≡ checkOf (daysRows basis start end) ⌝ }
+{
+    if 2 < basis {
+        return Checked::Refused(Refusal::Rate);
+    }
+    if !date_exists(start) {
+        return Checked::Refused(Refusal::Date(Blamed::First));
+    }
+    if !date_exists(end) {
+        return Checked::Refused(Refusal::Date(Blamed::Second));
+    }
+    if day_number(end) < day_number(start) {
+        return Checked::Refused(Refusal::Days);
+    }
+    if 366 < count_of(basis, start, end) {
+        return Checked::Refused(Refusal::Days);
+    }
+    Checked::Passed
+}
+
+// The days from the start to the end by the basis, or the refusal 6, 7 or 8.
+pub fn day_count(basis: u8, start: Date, end: Date) -> DayCount
+    ensures { λ r. ⌜ meansDays r ≡ daysSaid basis start end ⌝ }
+{
+    match check_days(basis, start, end) {
+        Checked::Refused(refusal) => DayCount::Refused(refusal),
+        Checked::Passed => DayCount::Days(count_of(basis, start, end)),
+    }
+}

@@ -1,0 +1,8 @@
+mod Rows
+mod Value
+pub mod Adds
+pub mod Bounds
+pub mod NeverOver
+pub mod OneAnswer
+pub mod ExactlyWhen
+pub mod Lines

@@ -1,0 +1,88 @@
+-- A refused rule is the call's refusal. With a rule, the amount is within L and the rate within the million, so the product fits and
+-- the tax is at most the net. Assumes nothing.
+use mathlib.Core.Path.{_≡_, sym, _∙_, ap}
+use native.Mathlib.Omega.{arith}
+use borrow.Author.Needs.{needs}
+use mir.Syntax.{w64}
+use mir.Val.{SFits}
+use mir.ValLaws.{toZ-ofZ}
+use Rattle.whole.specs.Whole.{negative, magnitudeOf}
+use Rattle.tax.specs.Tax.{fromNet}
+use Rattle.tax.proofs.Value.{said-refused, Call, product, net-limits, net-said}
+use Rattle.tax.proofs.price.tax_from_net.Statement.{statement}
+use Rattle.tax.proofs.price.tax_from_net.Tie as tie
+
+is-negative-requires : tie.Need-is-negative-requires
+is-negative-requires c κs = search needs
+
+magnitude-requires : tie.Need-magnitude-requires
+magnitude-requires c κs = search needs
+
+rule-for-requires : tie.Need-rule-for-requires
+rule-for-requires c κs = search needs
+
+enum-known-refusal : tie.Need-enum-known-refusal
+enum-known-refusal c = search needs
+
+enum-known-rule : tie.Need-enum-known-rule
+enum-known-rule c = search needs
+
+-- the sign and the magnitude of the net
+asked : (c : tie.After-magnitude)
+    → (c .before .before .is-negative .result ≡ negative (c .before .before .before .before .args .net .coefficient))
+    × (c .magnitude .result ≡ magnitudeOf (c .before .before .before .before .args .net .coefficient))
+asked c =
+    let z = c .before .before .before .before .args .net .coefficient in
+    let fits : SFits w64 z = search needs in
+    (c .before .before .is-negative .ensures ∙ ap negative (toZ-ofZ w64 z fits), c .magnitude .ensures ∙ ap magnitudeOf (toZ-ofZ w64 z fits))
+
+call : (c : tie.After-known-told2)
+    → Call (c .before .before .before .before .before .before .before .before .args .net)
+    (c .before .before .before .before .before .before .before .before .args .rate)
+    (c .before .before .before .before .before .before .before .before .args .mode)
+    (c .before .before .before .before .before .before .is-negative .result) (c .before .before .before .before .magnitude .result)
+    (c .before .rule .given .0 .0)
+call c =
+    let s = c .before .before .before .before in
+    record {
+      signs = asked s .0;
+      magnitudes = asked s .1;
+      choice = c .before .before .before .rule-for .result;
+      said = c .before .before .before .rule-for .ensures;
+      chosen = c .before .rule .given .1;
+    }
+
+mul-round : tie.Need-mul-round
+mul-round c = omega (arith, product (call c))
+
+round-requires : tie.Need-round-requires
+round-requires c κs = search needs
+
+split-of-requires : tie.Need-split-of-requires
+split-of-requires c κs = net-limits (call (c .before)) (c .round .result) (c .round .ensures)
+
+returns : tie.Need-returns
+returns c =
+    let s = c .before .before .before in
+    let a = s .before .before .before .before .before .args in
+    sym
+    (said-refused (a .net) (a .rate) (a .mode) (s .before .magnitude .result) (asked (s .before) .1) fromNet
+    (s .rule-for .result) (c .before .refusal .given .0 .0) (s .rule-for .ensures) (c .before .refusal .given .1))
+
+returns-2 : tie.Need-returns-2
+returns-2 c = c .split-of .ensures ∙ net-said (call (c .before .before)) (c .before .round .result) (c .before .round .ensures)
+
+pub tax-from-net-spec : {M : Type 1} → statement M
+tax-from-net-spec =
+    tie.close
+    (tie.spec
+    is-negative-requires
+    magnitude-requires
+    rule-for-requires
+    enum-known-refusal
+    enum-known-rule
+    mul-round
+    round-requires
+    split-of-requires
+    returns
+    returns-2)

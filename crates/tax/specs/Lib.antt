@@ -1,0 +1,2 @@
+pub mod Tax
+pub mod Parts

@@ -1,0 +1,70 @@
+-- Document 01, "Tax in and out of a price". Cited by `tax_from_net` and `tax_from_gross`. Assumes nothing.
+use mathlib.Core.Bool.{Bool}
+use mathlib.Core.List.{List, [], _∷_}
+use Prim.Native.Nat.{ℕ, _+_}
+use lib.Dec.{ltb}
+use lib.IntN.{ℤ, pos, _+ℤ_, _-ℤ_, _*ℤ_}
+use Rattle.refusal.specs.Number.{numberOf, blamedOf}
+use Rattle.refusal.specs.Rows.{Said, gives, refuses, Row, row, firstRow}
+use Rattle.refusal.specs.declared.Refusal.the-variants.{Mode, Scale, Magnitude, Unknown, Rate, Limit}
+use Rattle.whole.specs.Whole.{magnitudeOf}
+use Rattle.rounding.specs.declared.Rule.{Rule}
+use Rattle.rounding.specs.Modes.{badMode, ruleOf}
+use Rattle.rounding.specs.Leaf.{rounded}
+use Rattle.amount.specs.declared.Amount.{Amount}
+use Rattle.amount.specs.Amounts.{badScale, overL, unknown}
+use Rattle.tax.specs.declared.Split.{Split}
+use Rattle.tax.specs.declared.Taxed.{Taxed}
+use Rattle.tax.specs.declared.Taxed.the-variants.{Value, Refused}
+
+-- what each case of the answer says
+abbrev pub meansTax : Taxed → Said Split
+meansTax (Value s) = gives s
+meansTax (Refused r) = refuses (numberOf r) (blamedOf r)
+
+-- "Rate r: 0 to 1,000,000 parts per million"
+abbrev pub million : ℕ
+million = 1000000
+
+-- the rows behind row 1 and before row 13: an amount's, and row 6 at the rate
+unfoldable pub taxRows : (scale m currency rate : ℕ) → List Row
+taxRows scale m currency rate =
+    row Scale (badScale scale) ∷ row Magnitude (overL m) ∷ row Unknown (unknown currency) ∷ row Rate (ltb million rate) ∷ []
+
+-- an amount with another coefficient
+abbrev pub like : Amount → ℤ → Amount
+like a n = record { currency = a .currency; scale = a .scale; coefficient = n }
+
+-- "From net: tax = net x r / 1,000,000 rounded by the mode, gross = net + tax."
+unfoldable pub fromNet : Rule → Amount → ℕ → Split
+fromNet rule net r =
+    let tax = rounded rule (net .coefficient *ℤ pos r) million in
+    record { net = net; tax = like net tax; gross = like net (net .coefficient +ℤ tax) }
+
+-- "From gross: tax = gross x r / (1,000,000 + r) rounded by the mode, net = gross - tax."
+unfoldable pub fromGross : Rule → Amount → ℕ → Split
+fromGross rule gross r =
+    let tax = rounded rule (gross .coefficient *ℤ pos r) (million + r) in
+    record { net = like gross (gross .coefficient -ℤ tax); tax = like gross tax; gross = gross }
+
+-- row 13 at what is made
+abbrev pub made : Split → Said Split
+made s =
+    firstRow
+    (row Limit (overL (magnitudeOf (s .tax .coefficient)))
+    ∷ row Limit (overL (magnitudeOf (s .gross .coefficient)))
+    ∷ row Limit (overL (magnitudeOf (s .net .coefficient)))
+    ∷ [])
+    (gives s)
+
+-- the answer for an amount and a rate, by the way that the price is taken apart
+unfoldable pub splitSaid : (Rule → Amount → ℕ → Split) → Amount → (rate mode : ℕ) → Said Split
+splitSaid split a rate mode =
+    firstRow (row Mode (badMode mode) ∷ taxRows (a .scale) (magnitudeOf (a .coefficient)) (a .currency .0) rate)
+    (made (split (ruleOf mode) a rate))
+
+abbrev pub fromNetSaid : Amount → (rate mode : ℕ) → Said Split
+fromNetSaid = splitSaid fromNet
+
+abbrev pub fromGrossSaid : Amount → (rate mode : ℕ) → Said Split
+fromGrossSaid = splitSaid fromGross
