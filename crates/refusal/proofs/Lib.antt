@@ -1,3 +1,4 @@
 pub mod ExactlyWhen
 pub mod Check
 pub mod OneToOne
+pub mod Joined

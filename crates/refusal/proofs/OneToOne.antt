@@ -1,11 +1,14 @@
 -- A refusal is known by its number and the date that it blames: two refusals that read alike are the same case. Assumes nothing.
-use mathlib.Core.Path.{_≡_, refl, sym, _∙_, ap₂}
-use Prim.Native.Nat.{ℕ, zero, suc}
+use mathlib.Core.Path.{_≡_, refl, sym, _∙_, ap, ap₂}
+use Prim.Native.Nat.{ℕ}
+use native.Mathlib.Omega.{arith}
 use Rattle.refusal.specs.declared.Blamed.the-variants.{First, Second}
 use Rattle.refusal.specs.declared.Refusal.{Refusal}
 use Rattle.refusal.specs.declared.Refusal.the-variants.{Mode, Scale, Magnitude, Unknown, Differ, Rate, Date, Days, Weights, Negative, Room, Refund, Limit}
 use Rattle.refusal.specs.Number.{numberOf, blamedOf}
-use Rattle.refusal.specs.Rows.{Said, refuses}
+use Rattle.refusal.specs.Rows.{Said, refuses, meansOutcome}
+use Rattle.refusal.specs.declared.Checked.{Checked}
+use Rattle.refusal.specs.declared.Checked.the-variants.{Passed, Refused}
 use mathlib.Core.List.{List, [], _∷_}
 use lib.ListN.{getD}
 
@@ -35,3 +38,10 @@ same-case r s number blamed = sym (back r) ∙ ap₂ caseOf number blamed ∙ ba
 
 pub same-refusal : {A : Type 0} (r s : Refusal) → _≡_ {A = Said A} (refuses (numberOf r) (blamedOf r)) (refuses (numberOf s) (blamedOf s)) → r ≡ s
 same-refusal r s e = same-case r s (cc) (cc)
+
+-- two outcomes that say the same are the same
+pub same-outcome : {A : Type 0} (o p : Checked) (v w : A) → meansOutcome o v ≡ meansOutcome p w → o ≡ p
+same-outcome Passed Passed v w e = refl
+same-outcome Passed (Refused r) v w e = let z : _≡_ {A = ℕ} 0 1 = cc in absurd (omega arith)
+same-outcome (Refused r) Passed v w e = let z : _≡_ {A = ℕ} 0 1 = cc in absurd (omega arith)
+same-outcome {A} (Refused r) (Refused s) v w e = ap Refused (same-refusal {A = A} r s e)

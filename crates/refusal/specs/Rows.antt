@@ -37,6 +37,11 @@ checkOf [] = Passed
 checkOf (row r true ∷ rows) = Refused r
 checkOf (row r false ∷ rows) = checkOf rows
 
+-- what an outcome says, beside the value that the call gives where it is accepted
+abbrev pub meansOutcome : {A : Type 0} → Checked → A → Said A
+meansOutcome Passed value = gives value
+meansOutcome (Refused r) value = refuses (numberOf r) (blamedOf r)
+
 -- the rows stand in the table's order
 abbrev pub risingFrom : ℕ → List Row → Bool
 risingFrom n [] = true

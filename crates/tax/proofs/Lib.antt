@@ -1,4 +1,3 @@
-mod Rows
 mod Value
 pub mod Adds
 pub mod Bounds

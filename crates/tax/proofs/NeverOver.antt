@@ -16,7 +16,7 @@ use Rattle.amount.specs.Amounts.{largest}
 use Rattle.tax.specs.Tax.{million, taxRows, fromGross, made, splitSaid, fromGrossSaid}
 use Rattle.tax.specs.Parts.{rowsTaken, rowsMade}
 use Rattle.tax.proofs.Bounds.{at-most-all}
-use Rattle.tax.proofs.Rows.{let-pass, same-behind, not-given}
+use Rattle.refusal.proofs.Joined.{let-pass, same-behind, not-given}
 use Rattle.tax.proofs.Value.{made-given, gross-split}
 
 pub made-from-gross : (rule : Rule) (gross : Amount) (r : ℕ) → magnitudeOf (gross .coefficient) ≤ largest

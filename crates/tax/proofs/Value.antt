@@ -27,7 +27,7 @@ use Rattle.tax.specs.declared.Split.{Split}
 use Rattle.tax.specs.Tax.{million, taxRows, like, fromNet, fromGross, made, splitSaid, fromNetSaid, fromGrossSaid}
 use Rattle.tax.specs.Parts.{meansChoice, takenRows, ruleSaid, splitOf}
 use Rattle.tax.proofs.Bounds.{at-most-all}
-use Rattle.tax.proofs.Rows.{same-value, let-pass, same-refused}
+use Rattle.refusal.proofs.Joined.{same-value, let-pass, same-refused}
 
 -- numbers of one sign: the sum's magnitude is the sum, and what is left has the magnitude that is left
 signed-sum : (sign : Bool) (m n : ℕ) → signedOf sign m +ℤ signedOf sign n ≡ signedOf sign (m + n)

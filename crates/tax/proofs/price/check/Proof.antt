@@ -10,7 +10,7 @@ use Rattle.refusal.specs.declared.Checked.the-variants.{Passed}
 use Rattle.refusal.specs.Rows.{row, checkOf}
 use Rattle.amount.specs.Amounts.{amountRows}
 use Rattle.tax.specs.Tax.{million, taxRows}
-use Rattle.tax.proofs.Rows.{front-refused, front-passed}
+use Rattle.refusal.proofs.Joined.{front-refused, front-passed}
 use Rattle.tax.proofs.price.check.Statement.{statement}
 use Rattle.tax.proofs.price.check.Tie as tie
 

@@ -20,6 +20,11 @@ module _ (rows : List Row) where
   front-passed [] e = refl
   front-passed (row s true ∷ front) e = let z : _≡_ {A = ℕ} 0 1 = cc in absurd (omega arith)
   front-passed (row s false ∷ front) e = front-passed front e
+
+  pub both-passed : (front : List Row) → checkOf (front ++ rows) ≡ Passed → (checkOf front ≡ Passed) × (checkOf rows ≡ Passed)
+  both-passed [] e = (refl, e)
+  both-passed (row s true ∷ front) e = let z : _≡_ {A = ℕ} 0 1 = cc in absurd (omega arith)
+  both-passed (row s false ∷ front) e = both-passed front e
 
 module _ {A : Type 0} (x : A) where
   pub same-value : (y : A) (rows : List Row) → firstRow rows (gives x) ≡ gives y → x ≡ y

@@ -1,0 +1,74 @@
+-- Every call's answer is the first of its rows that holds, else its value, and its rows stand in the table's order: so a number is given
+-- exactly when a row of it holds and no row of a smaller number does. Assumes nothing.
+use mathlib.Core.Path.{_≡_, refl, sym, _∙_, ap}
+use mathlib.Core.List.{List, [], _∷_, _++_}
+use mathlib.Core.Logic.{_↔_}
+use Prim.Native.Nat.{ℕ}
+use lib.Dec.{T}
+use lib.IntN.{ℤ, negℤ}
+use Rattle.refusal.specs.declared.Refusal.the-variants.{Mode, Limit}
+use Rattle.refusal.specs.Rows.{Said, gives, Row, row, firstRow, rising, Holds}
+use Rattle.refusal.proofs.Check.{behind}
+use Rattle.refusal.proofs.ExactlyWhen.{Given, NoneBelow, exactly-when}
+use Rattle.whole.specs.Whole.{magnitudeOf}
+use Rattle.rounding.specs.Modes.{badMode, ruleOf}
+use Rattle.amount.specs.declared.Amount.{Amount}
+use Rattle.amount.specs.Amounts.{overL, amountRows, limited}
+use Rattle.amount.specs.Sum.{pairRows, rowsOfTwo, total, sumSaid, orderSaid, negateSaid}
+use Rattle.amount.specs.Rescaling.{rescaleRows, rescaled, rescaleSaid}
+use Rattle.amount.proofs.ByWorth.{found}
+use Rattle.amount.proofs.RescaleLaws.{moved}
+use Rattle.amount.proofs.SumLaws.{made}
+
+-- a call that these rows stop, in the table's order, and that gives this value where they don't
+pub record Decides {A : Type 0} (said : Said A) (rows : List Row) (value : A) : Type 0 where
+  pub by-rows : said ≡ firstRow rows (gives value)
+  pub rises : T (rising rows)
+
+-- row 13 at a result
+abbrev pub limitRow : ℤ → List Row
+limitRow result = row Limit (overL (magnitudeOf result)) ∷ []
+
+-- THE LAW, for every call below
+pub number-given : {A : Type 0} {said : Said A} (rows : List Row) (value : A) → Decides said rows value
+    → (n : ℕ) → Given value n rows ↔ (Holds n rows × NoneBelow n rows)
+number-given rows value d n = exactly-when value n rows (d .rises)
+
+pub within-rows : (a : Amount) → Decides (limited (a .coefficient) a) (limitRow (a .coefficient)) a
+within-rows a = record { by-rows = refl; rises = tt }
+
+abbrev pub sumRows : Amount → Amount → List Row
+sumRows a b = rowsOfTwo a b ++ limitRow (total a b)
+
+pub sum-rows : (a b : Amount) → Decides (sumSaid a b) (sumRows a b) (made a b)
+unfolding sumSaid pairRows
+sum-rows a b = record { by-rows = sym (behind (gives (made a b)) (rowsOfTwo a b) (limitRow (total a b))); rises = tt }
+
+pub order-rows : (a b : Amount) → Decides (orderSaid a b) (rowsOfTwo a b) (found a b)
+unfolding orderSaid pairRows
+order-rows a b = record { by-rows = refl; rises = tt }
+
+-- the amount with the opposite coefficient
+abbrev pub turned : Amount → Amount
+turned a = record { currency = a .currency; scale = a .scale; coefficient = negℤ (a .coefficient) }
+
+pub negate-rows : (a : Amount) → Decides (negateSaid a) (amountRows (a .scale) (magnitudeOf (a .coefficient)) (a .currency .0)) (turned a)
+unfolding negateSaid
+negate-rows a = record { by-rows = refl; rises = tt }
+
+abbrev pub allRescaleRows : Amount → (scale mode : ℕ) → List Row
+allRescaleRows a t mode =
+    row Mode (badMode mode)
+    ∷ (rescaleRows (a .scale) t (magnitudeOf (a .coefficient)) (a .currency .0) ++ limitRow (rescaled (ruleOf mode) t a))
+
+pub rescale-rows : (a : Amount) (scale mode : ℕ) → Decides (rescaleSaid a scale mode) (allRescaleRows a scale mode) (moved (ruleOf mode) scale a)
+unfolding rescaleSaid
+rescale-rows a t mode =
+    let v = gives (moved (ruleOf mode) t a) in
+    let rows = rescaleRows (a .scale) t (magnitudeOf (a .coefficient)) (a .currency .0) in
+    let last = limitRow (rescaled (ruleOf mode) t a) in
+    let first = row Mode (badMode mode) ∷ [] in
+    record {
+      by-rows = sym (behind v first (rows ++ last) ∙ ap (λ (x : Said Amount). firstRow first x) (behind v rows last));
+      rises = tt;
+    }

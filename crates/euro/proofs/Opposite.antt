@@ -1,0 +1,90 @@
+-- The negative amount converts to the negative answer, and is refused with the same number: HALF_UP does not look at the sign, and the
+-- limits are on magnitudes. Assumes nothing.
+use mathlib.Core.Path.{_≡_, refl, sym, _∙_, ap}
+use mathlib.Core.Bool.{Bool, true, false, cond}
+use mathlib.Core.List.{List, [], _∷_}
+use Prim.Native.Nat.{ℕ, zero, suc, _+_, _*_, _^_}
+use native.Mathlib.Nat.{zero-mul}
+use lib.Dec.{eqb}
+use lib.IntN.{ℤ, pos, negsuc, negℤ, negℤ-negℤ, _*ℤ_}
+use Rattle.refusal.specs.Rows.{Said, gives, refuses, Row, row, firstRow}
+use Rattle.refusal.specs.declared.Refusal.the-variants.{Limit}
+use Rattle.whole.specs.Whole.{magnitudeOf}
+use Rattle.whole.proofs.Laws.{magnitude-opposite}
+use Rattle.rounding.specs.declared.Rule.the-variants.{HalfUp}
+use Rattle.rounding.specs.Leaf.{rounded}
+use Rattle.rounding.proofs.Opposite.{opposite}
+use Rattle.amount.specs.declared.Amount.{Amount}
+use Rattle.amount.specs.declared.Currency.{Currency}
+use Rattle.amount.specs.declared.Line.{Line}
+use Rattle.amount.specs.Amounts.{overL}
+use Rattle.amount.specs.Table.{lineOf}
+use Rattle.euro.specs.Steps.{toEuro, fromEuro, cents, stepDecimals}
+use Rattle.euro.specs.Conversion.{convertRows, euro, settled, throughEuro, exchanged, converted, convertSaid}
+
+opposite-times : (n : ℤ) (f : ℕ) → negℤ n *ℤ pos f ≡ negℤ (n *ℤ pos f)
+opposite-times (pos zero) f = rw zero-mul
+opposite-times (pos (suc n)) f = refl
+opposite-times (negsuc n) f = sym (negℤ-negℤ (pos (suc n * f)))
+
+rounded-opposite : (n : ℤ) (f d : ℕ) → rounded HalfUp (negℤ n *ℤ pos f) d ≡ negℤ (rounded HalfUp (n *ℤ pos f) d)
+rounded-opposite n f d = ap (λ (z : ℤ). rounded HalfUp z d) (opposite-times n f) ∙ opposite HalfUp (n *ℤ pos f) d
+
+module _ (l : Line) (decimals : ℕ) (n : ℤ) where
+  pub to-euro-opposite : toEuro l decimals (negℤ n) ≡ negℤ (toEuro l decimals n)
+  unfolding toEuro
+  to-euro-opposite = rounded-opposite n (10 ^ (l .places + decimals)) (l .figures * 10 ^ l .digits)
+
+  pub from-euro-opposite : fromEuro l decimals (negℤ n) ≡ negℤ (fromEuro l decimals n)
+  unfolding fromEuro
+  from-euro-opposite = rounded-opposite n (l .figures * 10 ^ l .digits) (10 ^ (l .places + decimals))
+
+abbrev pub negated : Amount → Amount
+negated a = record { currency = a .currency; scale = a .scale; coefficient = negℤ (a .coefficient) }
+
+-- the negative of what was said, where it was an amount
+abbrev pub negatedSaid : Said Amount → Said Amount
+negatedSaid (gives a) = gives (negated a)
+negatedSaid (refuses number blamed) = refuses number blamed
+
+rows-opposite : (rows : List Row) (v w : Said Amount) → v ≡ negatedSaid w → firstRow rows v ≡ negatedSaid (firstRow rows w)
+rows-opposite [] v w e = e
+rows-opposite (row r true ∷ rows) v w e = refl
+rows-opposite (row r false ∷ rows) v w e = rows-opposite rows v w e
+
+-- row 13 at z
+limit-opposite : (z : ℤ) (v w : Said Amount) → v ≡ negatedSaid w
+    → firstRow (row Limit (overL (magnitudeOf (negℤ z))) ∷ []) v ≡ negatedSaid (firstRow (row Limit (overL (magnitudeOf z)) ∷ []) w)
+limit-opposite z v w e =
+    ap (λ (m : ℕ). firstRow (row Limit (overL m) ∷ []) v) (magnitude-opposite z) ∙ rows-opposite (row Limit (overL (magnitudeOf z)) ∷ []) v w e
+
+cond-opposite : (b : Bool) (v v' w w' : Said Amount) → v' ≡ negatedSaid v → w' ≡ negatedSaid w → cond b v' w' ≡ negatedSaid (cond b v w)
+cond-opposite true v v' w w' e f = e
+cond-opposite false v v' w w' e f = f
+
+settled-opposite : (to : ℕ) (n : ℤ) → settled to (negℤ n) ≡ negatedSaid (settled to n)
+settled-opposite to n = limit-opposite n _ _ refl
+
+module _ (from to : ℕ) (n : ℤ) where
+  through-opposite : throughEuro from to (negℤ n) ≡ negatedSaid (throughEuro from to n)
+  through-opposite =
+      let step = toEuro (lineOf from) stepDecimals n in
+      rw (to-euro-opposite (lineOf from) stepDecimals n)
+      (limit-opposite step (settled to (fromEuro (lineOf to) stepDecimals (negℤ step))) (settled to (fromEuro (lineOf to) stepDecimals step))
+      (ap (settled to) (from-euro-opposite (lineOf to) stepDecimals step) ∙ settled-opposite to (fromEuro (lineOf to) stepDecimals step)))
+
+  exchanged-opposite : exchanged from to (negℤ n) ≡ negatedSaid (exchanged from to n)
+  unfolding exchanged
+  exchanged-opposite =
+      cond-opposite (eqb from euro) _ _ _ _
+      (ap (settled to) (from-euro-opposite (lineOf to) cents n) ∙ settled-opposite to (fromEuro (lineOf to) cents n))
+      (cond-opposite (eqb to euro) _ _ _ _
+      (ap (settled to) (to-euro-opposite (lineOf from) cents n) ∙ settled-opposite to (toEuro (lineOf from) cents n))
+      through-opposite)
+
+pub convert-opposite : (a : Amount) (to : Currency) → convertSaid (negated a) to ≡ negatedSaid (convertSaid a to)
+unfolding convertSaid converted
+convert-opposite a to =
+    rw (magnitude-opposite (a .coefficient))
+    (rows-opposite (convertRows (a .scale) (magnitudeOf (a .coefficient)) (a .currency .0) (to .0)) (converted (negated a) (to .0)) (converted a (to .0))
+    (cond-opposite (eqb (a .currency .0) (to .0)) _ _ _ _ refl (exchanged-opposite (a .currency .0) (to .0) (a .coefficient))))

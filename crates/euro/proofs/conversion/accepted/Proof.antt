@@ -1,0 +1,66 @@
+-- What passed the check is within the limits of the steps, and the amount's coefficient is its sign and its magnitude. Assumes nothing.
+use mathlib.Core.Path.{_≡_, sym, _∙_, ap, ap₂}
+use Prim.Native.Nat.{ℕ, _≤_}
+use borrow.Author.Needs.{needs}
+use borrow.Author.Tests.{eq-eqb, ne-eqb, ltb-false}
+use mir.Syntax.{w64}
+use mir.Val.{SFits}
+use mir.ValLaws.{toZ-ofZ}
+use Rattle.refusal.specs.declared.Checked.the-variants.{Passed}
+use Rattle.refusal.specs.Rows.{checkOf}
+use Rattle.refusal.proofs.Check.{clear}
+use Rattle.whole.specs.Whole.{negative, magnitudeOf, signedOf}
+use Rattle.whole.proofs.Laws.{sign-and-magnitude}
+use Rattle.amount.specs.Amounts.{largest, lastCurrency}
+use Rattle.euro.specs.Conversion.{convertRows, exchanged, converted}
+use Rattle.euro.proofs.conversion.accepted.Statement.{statement}
+use Rattle.euro.proofs.conversion.accepted.Tie as tie
+
+returns : tie.Need-returns
+unfolding converted
+returns c = let a = c .before .args in sym (rw (eq-eqb (a .amount .currency .0) (a .to) (c .if1 .taken)))
+
+is-negative-requires : tie.Need-is-negative-requires
+is-negative-requires c κs = search needs
+
+magnitude-requires : tie.Need-magnitude-requires
+magnitude-requires c κs = search needs
+
+-- what passed the check
+within : (scale m from to : ℕ) → checkOf (convertRows scale m from to) ≡ Passed → (from ≤ lastCurrency) × (to ≤ lastCurrency) × (m ≤ largest)
+unfolding convertRows
+within scale m from to e =
+    let none = clear (convertRows scale m from to) e .1 .1 in
+    (ltb-false lastCurrency from (none .1 .0), ltb-false lastCurrency to (none .1 .1 .0), ltb-false largest m (none .0))
+
+-- what `magnitude` and `is_negative` answered
+asked : (c : tie.After-magnitude)
+    → (c .before .before .is-negative .result ≡ negative (c .before .before .before .before .before .args .amount .coefficient))
+    × (c .magnitude .result ≡ magnitudeOf (c .before .before .before .before .before .args .amount .coefficient))
+asked c =
+    let z = c .before .before .before .before .before .args .amount .coefficient in
+    let fits : SFits w64 z = search needs in
+    let read = toZ-ofZ w64 z fits in
+    (c .before .before .is-negative .ensures ∙ ap negative read, c .magnitude .ensures ∙ ap magnitudeOf read)
+
+exchange-requires : tie.Need-exchange-requires
+exchange-requires c κs =
+    let s = c .before .before .before .before .before in
+    let a = s .args in
+    let limits = within (a .amount .scale) (magnitudeOf (a .amount .coefficient)) (a .amount .currency .0) (a .to) (s .pre) in
+    (limits .0, limits .1, rw (asked c .1) (limits .2))
+
+returns-2 : tie.Need-returns-2
+unfolding converted
+returns-2 c =
+    let e = c .before .before .before .before .before in
+    let a = e .before .args in
+    c .exchange .ensures
+    ∙ ap (exchanged (a .amount .currency .0) (a .to))
+    (ap₂ signedOf (asked (c .before) .0) (asked (c .before) .1) ∙ sign-and-magnitude (a .amount .coefficient))
+    ∙ sym (rw (ne-eqb (a .amount .currency .0) (a .to) (e .if1 .left)))
+
+pub accepted-spec : {M : Type 1} → statement M
+accepted-spec =
+    tie.close
+    (tie.spec returns is-negative-requires magnitude-requires exchange-requires returns-2)

@@ -1,0 +1,57 @@
+-- The tests are those of the definition's cases, and each case is the step that the definition names. Assumes nothing.
+use mathlib.Core.Path.{sym, _∙_, ap}
+use borrow.Author.Needs.{needs}
+use borrow.Author.Tests.{eq-eqb, ne-eqb}
+use Rattle.euro.specs.Conversion.{euro, settled, exchanged}
+use Rattle.euro.proofs.conversion.exchange.Statement.{statement}
+use Rattle.euro.proofs.conversion.exchange.Tie as tie
+
+from-euro-requires : tie.Need-from-euro-requires
+from-euro-requires c κs = search needs
+
+settle-requires : tie.Need-settle-requires
+settle-requires c κs = search needs
+
+returns : tie.Need-returns
+unfolding exchanged
+returns c =
+    let s = c .before .before in
+    let a = s .before .args in
+    c .settle .ensures ∙ ap (settled (a .to)) (c .before .from-euro .ensures .0) ∙ sym (rw (eq-eqb (a .from) euro (s .if1 .taken)))
+
+to-euro-requires : tie.Need-to-euro-requires
+to-euro-requires c κs = search needs
+
+settle-requires-2 : tie.Need-settle-requires-2
+settle-requires-2 c κs = search needs
+
+returns-2 : tie.Need-returns-2
+unfolding exchanged
+returns-2 c =
+    let s = c .before .before in
+    let a = s .before .before .args in
+    c .settle2 .ensures ∙ ap (settled (a .to)) (c .before .to-euro .ensures .0)
+    ∙ sym (rw (ne-eqb (a .from) euro (s .before .if1 .left), eq-eqb (a .to) euro (s .if2 .taken)))
+
+through-euro-requires : tie.Need-through-euro-requires
+through-euro-requires c κs = search needs
+
+returns-3 : tie.Need-returns-3
+unfolding exchanged
+returns-3 c =
+    let s = c .before in
+    let a = s .before .before .args in
+    c .through-euro .ensures ∙ sym (rw (ne-eqb (a .from) euro (s .before .if1 .left), ne-eqb (a .to) euro (s .if2 .left)))
+
+pub exchange-spec : {M : Type 1} → statement M
+exchange-spec =
+    tie.close
+    (tie.spec
+    from-euro-requires
+    settle-requires
+    returns
+    to-euro-requires
+    settle-requires-2
+    returns-2
+    through-euro-requires
+    returns-3)

@@ -1,0 +1,53 @@
+-- Document 01, "Euro steps": the conversion of an amount to a currency, one statement for all 21 currencies. Cited by `convert`.
+-- Assumes nothing.
+use mathlib.Core.Bool.{cond}
+use mathlib.Core.List.{List, [], _∷_}
+use Prim.Native.Nat.{ℕ}
+use lib.Dec.{eqb}
+use lib.IntN.{ℤ}
+use Rattle.refusal.specs.Rows.{Said, gives, Row, row, firstRow}
+use Rattle.refusal.specs.declared.Refusal.the-variants.{Scale, Magnitude, Unknown, Limit}
+use Rattle.whole.specs.Whole.{magnitudeOf}
+use Rattle.amount.specs.declared.Amount.{Amount}
+use Rattle.amount.specs.declared.Currency.{Currency}
+use Rattle.amount.specs.Amounts.{badScale, overL, unknown, limited}
+use Rattle.amount.specs.Digits.{notOwnDigits}
+use Rattle.amount.specs.Table.{lineOf}
+use Rattle.euro.specs.Steps.{toEuro, fromEuro, cents, stepDecimals}
+
+-- rows 2, 3 and 4, by the amount's scale, magnitude and currency and by the currency that is asked for
+unfoldable pub convertRows : (scale m from to : ℕ) → List Row
+convertRows scale m from to =
+    row Scale (badScale scale)
+    ∷ row Scale (notOwnDigits from scale)
+    ∷ row Magnitude (overL m)
+    ∷ row Unknown (unknown from)
+    ∷ row Unknown (unknown to)
+    ∷ []
+
+-- the euro is currency number 0
+abbrev pub euro : ℕ
+euro = 0
+
+-- the result in a currency, at its own digits; row 13 at the result
+abbrev pub settled : ℕ → ℤ → Said Amount
+settled to n = limited n (record { currency = record { 0 = to }; scale = lineOf to .digits; coefficient = n })
+
+-- article 4(4), "Old to old": through the euro; row 13 at the euro step
+abbrev pub throughEuro : (from to : ℕ) → ℤ → Said Amount
+throughEuro from to n =
+    let step = toEuro (lineOf from) stepDecimals n in
+    firstRow (row Limit (overL (magnitudeOf step)) ∷ []) (settled to (fromEuro (lineOf to) stepDecimals step))
+
+-- between two currencies that differ: euro to old unit, old unit to euro, or old to old
+unfoldable pub exchanged : (from to : ℕ) → ℤ → Said Amount
+exchanged from to n =
+    cond (eqb from euro) (settled to (fromEuro (lineOf to) cents n))
+    (cond (eqb to euro) (settled to (toEuro (lineOf from) cents n)) (throughEuro from to n))
+
+-- "Same currency on both sides: the amount unchanged (house rule)"
+unfoldable pub converted : Amount → ℕ → Said Amount
+converted a to = cond (eqb (a .currency .0) to) (gives a) (exchanged (a .currency .0) to (a .coefficient))
+
+unfoldable pub convertSaid : Amount → Currency → Said Amount
+convertSaid a to = firstRow (convertRows (a .scale) (magnitudeOf (a .coefficient)) (a .currency .0) (to .0)) (converted a (to .0))

@@ -1,0 +1,146 @@
+// The two euro steps on magnitudes, each rounded HALF_UP, and the conversion over them.
+use amount::Amount;
+use amount::Answer;
+use amount::Currency;
+use amount::line_of;
+use amount::not_own_digits;
+use amount::power_of_ten;
+use amount::within;
+use refusal::Checked;
+use refusal::Refusal;
+use rounding::Rule;
+use rounding::round;
+use whole::is_negative;
+use whole::magnitude;
+use whole::signed;
+ghost use mathlib.Core.Path.{_≡_};
+ghost use Prim.Native.Nat.{_^_, _≤_};
+ghost use Rattle.refusal.specs.Rows.{checkOf};
+ghost use Rattle.refusal.specs.declared.Checked.the-variants.{Passed};
+ghost use Rattle.whole.specs.Whole.{magnitudeOf, signedOf};
+ghost use Rattle.amount.specs.Amounts.{largest, lastCurrency, meansAmount};
+ghost use Rattle.amount.specs.Table.{lineOf};
+ghost use Rattle.euro.specs.Steps.{toEuro, fromEuro};
+ghost use Rattle.euro.specs.Conversion.{convertRows, settled, throughEuro, exchanged, converted, convertSaid};
+
+// The euro's currency number.
+const EURO: u8 = 0;
+// The decimals of a euro amount.
+const CENTS: u8 = 2;
+// The decimals of the euro step between two old units.
+const STEP: u8 = 3;
+
+// Old unit to euro at 2 or 3 decimals, divided by the rate. The factor 10^digits of numerator and divisor is left out, so that
+// the product fits.
+fn to_euro(from: u8, decimals: u8, negative: bool, m: u64) -> u64
+    requires { ⌜ (from ≤ lastCurrency) × (decimals ≤ 3) × (m ≤ largest) ⌝ }
+    ensures { λ r. ⌜ (signedOf negative r ≡ toEuro (lineOf from) decimals (signedOf negative m)) × (r ≤ 10 ^ 18) ⌝ }
+{
+    let line = line_of(Currency(from));
+    let shift = power_of_ten(line.places + decimals - line.digits);
+    let rate = line.figures;
+    round(Rule::HalfUp, negative, m * shift, rate)
+}
+
+// Euro at 2 or 3 decimals to the old unit, multiplied by the rate.
+fn from_euro(to: u8, decimals: u8, negative: bool, m: u64) -> u64
+    requires { ⌜ (to ≤ lastCurrency) × (decimals ≤ 3) × (m ≤ largest) ⌝ }
+    ensures { λ r. ⌜ (signedOf negative r ≡ fromEuro (lineOf to) decimals (signedOf negative m)) × (r ≤ 10 ^ 18) ⌝ }
+{
+    let line = line_of(Currency(to));
+    let shift = power_of_ten(line.places + decimals - line.digits);
+    let rate = line.figures;
+    round(Rule::HalfUp, negative, m * rate, shift)
+}
+
+// The amount of a magnitude in a currency, at its own digits; refusal 13 where it is over L.
+fn settle(to: u8, negative: bool, m: u64) -> Answer
+    requires { ⌜ m ≤ 10 ^ 18 ⌝ }
+    ensures { λ r. ⌜ meansAmount r ≡ settled to (signedOf negative m) ⌝ }
+{
+    let line = line_of(Currency(to));
+    within(Amount {
+        currency: Currency(to),
+        scale: line.digits,
+        coefficient: signed(negative, m),
+    })
+}
+
+// Old unit to old unit: through the euro at 3 decimals; refusal 13 where that step or the result is over L.
+fn through_euro(from: u8, to: u8, negative: bool, m: u64) -> Answer
+    requires { ⌜ (from ≤ lastCurrency) × (to ≤ lastCurrency) × (m ≤ largest) ⌝ }
+    ensures { λ r. ⌜ meansAmount r ≡ throughEuro from to (signedOf negative m) ⌝ }
+{
+    let step = to_euro(from, STEP, negative, m);
+    if Amount::L < step {
+        return Answer::Refused(Refusal::Limit);
+    }
+    settle(to, negative, from_euro(to, STEP, negative, step))
+}
+
+// Between two currencies that differ.
+fn exchange(from: u8, to: u8, negative: bool, m: u64) -> Answer
+    requires { ⌜ (from ≤ lastCurrency) × (to ≤ lastCurrency) × (m ≤ largest) ⌝ }
+    ensures { λ r. ⌜ meansAmount r ≡ exchanged from to (signedOf negative m) ⌝ }
+{
+    if from == EURO {
+        return settle(to, negative, from_euro(to, CENTS, negative, m));
+    }
+    if to == EURO {
+        return settle(to, negative, to_euro(from, CENTS, negative, m));
+    }
+    through_euro(from, to, negative, m)
+}
+
+fn check(scale: u8, m: u64, from: u8, to: u8) -> Checked
+    ensures { λ r. ⌜ r ≡ checkOf (convertRows scale m from to) ⌝ }
+{
+    if Amount::SCALE < scale {
+        return Checked::Refused(Refusal::Scale);
+    }
+    if not_own_digits(from, scale) {
+        return Checked::Refused(Refusal::Scale);
+    }
+    if Amount::L < m {
+        return Checked::Refused(Refusal::Magnitude);
+    }
+    if Currency::LAST < from {
+        return Checked::Refused(Refusal::Unknown);
+    }
+    if Currency::LAST < to {
+        return Checked::Refused(Refusal::Unknown);
+    }
+    Checked::Passed
+}
+
+// What passed the check: the amount itself within one currency, else the exchanged amount.
+fn accepted(amount: Amount, to: u8) -> Answer
+    requires { ⌜ checkOf (convertRows (amount .scale) (magnitudeOf (amount .coefficient)) (amount .currency .0) to) ≡ Passed ⌝ }
+    ensures { λ r. ⌜ meansAmount r ≡ converted amount to ⌝ }
+{
+    let from = amount.currency.0;
+    if from == to {
+        return Answer::Value(amount);
+    }
+    exchange(
+        from,
+        to,
+        is_negative(amount.coefficient),
+        magnitude(amount.coefficient),
+    )
+}
+
+// The amount in the currency `to`, or the refusal 2, 3, 4 or 13.
+pub fn convert(amount: Amount, to: Currency) -> Answer
+    ensures { λ r. ⌜ meansAmount r ≡ convertSaid amount to ⌝ }
+{
+    match check(
+        amount.scale,
+        magnitude(amount.coefficient),
+        amount.currency.0,
+        to.0,
+    ) {
+        Checked::Refused(refusal) => Answer::Refused(refusal),
+        Checked::Passed => accepted(amount, to.0),
+    }
+}

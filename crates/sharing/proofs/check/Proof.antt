@@ -1,0 +1,40 @@
+-- An amount's rows stand in front of those of the weights and the output. Assumes nothing.
+use mathlib.Core.Path.{sym, _∙_}
+use borrow.Author.Needs.{needs}
+use denote.Ref.{now}
+use Rattle.refusal.proofs.Joined.{front-refused, front-passed}
+use Rattle.amount.specs.Amounts.{amountRows}
+use Rattle.sharing.specs.Shared.{sharingRows}
+use Rattle.sharing.proofs.check.Statement.{statement}
+use Rattle.sharing.proofs.check.Tie as tie
+
+check-one-requires : tie.Need-check-one-requires
+check-one-requires c κs = search needs
+
+enum-known-refusal : tie.Need-enum-known-refusal
+enum-known-refusal c = search needs
+
+enum-told : tie.Need-enum-told
+enum-told c = search needs
+
+check-requires : tie.Need-check-requires
+check-requires c κs = search needs
+
+returns : tie.Need-returns
+returns c =
+    let a = c .before .before .before .before .before .args in
+    sym
+    (front-refused (sharingRows (now (a .weights)) (a .room)) (amountRows (a .scale) (a .m) (a .currency)) (c .before .refusal .given .0 .0)
+    (sym (c .before .before .before .check-one .ensures) ∙ c .before .refusal .given .1))
+
+returns-2 : tie.Need-returns-2
+returns-2 c =
+    let a = c .before .before .before .before .before .args in
+    c .check .ensures
+    ∙ sym (front-passed (sharingRows (now (a .weights)) (a .room)) (amountRows (a .scale) (a .m) (a .currency))
+    (sym (c .before .before .before .check-one .ensures) ∙ c .before .enum-told .given .1))
+
+pub check-spec : {M : Type 1} → statement M
+check-spec =
+    tie.close
+    (tie.spec check-one-requires enum-known-refusal enum-told check-requires returns returns-2)
