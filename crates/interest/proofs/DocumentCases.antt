@@ -1,12 +1,17 @@
--- Document 01's cases of dates and of a day count, computed from the definitions. Assumes nothing.
+-- Document 01's cases of dates, of a day count and of an interest, computed from the definitions. Assumes nothing.
 use mathlib.Core.Path.{_≡_, refl}
 use mathlib.Core.Bool.{true, false}
 use Prim.Native.Nat.{ℕ}
-use Rattle.refusal.specs.Rows.{gives, refuses}
+use lib.IntN.{pos}
+use Rattle.refusal.specs.Rows.{Said, gives, refuses}
+use Rattle.rounding.specs.Modes.{badMode, ruleOf}
+use Rattle.rounding.specs.Leaf.{restOf, isOdd, roundedMagnitude, rounded}
+use Rattle.amount.specs.declared.Amount.{Amount}
 use Rattle.interest.specs.declared.Date.{Date}
 use Rattle.interest.specs.Calendar.{leap, monthLength, exists, daysOfMonths, daysOfYears, dayNumber}
 use Rattle.interest.specs.DayCount.{actual, thirty}
 use Rattle.interest.specs.DaysSaid.{dateExists, daysRows, daysSaid}
+use Rattle.interest.specs.Interest.{interestRows, interestOf, interestSaid}
 
 abbrev february : Date
 february = record { year = 2023; month = 2; day = 28 }
@@ -26,3 +31,23 @@ leapDay year = record { year = year; month = 2; day = 29 }
 pub leap-days : (dateExists (leapDay 1900) ≡ false) × (dateExists (leapDay 2000) ≡ true) × (daysSaid 0 (leapDay 1900) (leapDay 1900) ≡ refuses 7 1)
 unfolding leap monthLength exists daysOfMonths daysOfYears dayNumber actual thirty daysRows daysSaid
 leap-days = (refl, refl, refl)
+
+-- so many cents of a currency
+abbrev centsOf : (currency cents : ℕ) → Amount
+centsOf currency cents = record { currency = record { 0 = currency }; scale = 2; coefficient = pos cents }
+
+-- 1000.00 EUR at 500 points, HALF_UP
+abbrev onThousand : ℕ → (start end : Date) → Said Amount
+onThousand basis start end = interestSaid (centsOf 0 100000) 500 basis start end 4
+
+-- "basis 0 .. gives 4.31; basis 1 .. 4.25; basis 2 .. 4.44"
+pub on-thousand : (onThousand 0 february march ≡ gives (centsOf 0 431))
+    × (onThousand 1 february march ≡ gives (centsOf 0 425))
+    × (onThousand 2 february march ≡ gives (centsOf 0 444))
+unfolding leap monthLength exists daysOfMonths daysOfYears dayNumber actual thirty daysRows badMode ruleOf restOf isOdd roundedMagnitude rounded interestRows interestOf interestSaid
+on-thousand = (refl, refl, refl)
+
+-- both dates are bad: the first is blamed; "Mode 7 with a bad currency: refusal 1"
+pub interest-refused : (onThousand 0 (leapDay 1900) (leapDay 1900) ≡ refuses 7 1) × (interestSaid (centsOf 21 100000) 500 0 february march 7 ≡ refuses 1 0)
+unfolding leap monthLength exists daysOfMonths daysOfYears dayNumber actual thirty daysRows badMode ruleOf restOf isOdd roundedMagnitude rounded interestRows interestOf interestSaid
+interest-refused = (refl, refl)

@@ -9,4 +9,8 @@ pub mod Thirty
 pub mod Bases
 pub mod DaysRows
 pub mod DaysAnswer
+pub mod Accrued
+pub mod NoInterest
+pub mod SameSign
+pub mod InterestAnswer
 pub mod DocumentCases

@@ -1,6 +1,7 @@
 // Simple interest over days: dates, the day count of each basis, the interest.
 use refusal::Refusal;
 
+mod accrual;
 mod calendar;
 mod days;
 
@@ -16,5 +17,6 @@ pub enum DayCount {
     Refused(Refusal),
 }
 
+pub use accrual::interest;
 pub use calendar::date_exists;
 pub use days::day_count;

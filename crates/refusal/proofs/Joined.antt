@@ -10,21 +10,21 @@ use Rattle.refusal.specs.declared.Checked.the-variants.{Passed, Refused}
 use Rattle.refusal.specs.Number.{numberOf}
 use Rattle.refusal.specs.Rows.{Said, gives, refuses, Row, row, firstRow, checkOf}
 
-module _ (rows : List Row) where
-  pub front-refused : (front : List Row) (r : Refusal) → checkOf front ≡ Refused r → checkOf (front ++ rows) ≡ Refused r
-  front-refused [] r e = let z : _≡_ {A = ℕ} 0 1 = cc in absurd (omega arith)
-  front-refused (row s true ∷ front) r e = e
-  front-refused (row s false ∷ front) r e = front-refused front r e
+pub front-refused : (front rows : List Row) (r : Refusal) → checkOf front ≡ Refused r → checkOf (front ++ rows) ≡ Refused r
+front-refused [] rows r e = let z : _≡_ {A = ℕ} 0 1 = cc in absurd (omega arith)
+front-refused (row s true ∷ front) rows r e = e
+front-refused (row s false ∷ front) rows r e = front-refused front rows r e
 
-  pub front-passed : (front : List Row) → checkOf front ≡ Passed → checkOf (front ++ rows) ≡ checkOf rows
-  front-passed [] e = refl
-  front-passed (row s true ∷ front) e = let z : _≡_ {A = ℕ} 0 1 = cc in absurd (omega arith)
-  front-passed (row s false ∷ front) e = front-passed front e
+pub front-passed : (front rows : List Row) → checkOf front ≡ Passed → checkOf (front ++ rows) ≡ checkOf rows
+front-passed [] rows e = refl
+front-passed (row s true ∷ front) rows e = let z : _≡_ {A = ℕ} 0 1 = cc in absurd (omega arith)
+front-passed (row s false ∷ front) rows e = front-passed front rows e
 
-  pub both-passed : (front : List Row) → checkOf (front ++ rows) ≡ Passed → (checkOf front ≡ Passed) × (checkOf rows ≡ Passed)
-  both-passed [] e = (refl, e)
-  both-passed (row s true ∷ front) e = let z : _≡_ {A = ℕ} 0 1 = cc in absurd (omega arith)
-  both-passed (row s false ∷ front) e = both-passed front e
+-- what passes all rows passes those in front, and those behind
+pub both-passed : (front rows : List Row) → checkOf (front ++ rows) ≡ Passed → (checkOf front ≡ Passed) × (checkOf rows ≡ Passed)
+both-passed [] rows e = (refl, e)
+both-passed (row s true ∷ front) rows e = let z : _≡_ {A = ℕ} 0 1 = cc in absurd (omega arith)
+both-passed (row s false ∷ front) rows e = both-passed front rows e
 
 module _ {A : Type 0} (x : A) where
   pub same-value : (y : A) (rows : List Row) → firstRow rows (gives x) ≡ gives y → x ≡ y

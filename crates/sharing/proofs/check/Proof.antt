@@ -24,14 +24,14 @@ returns : tie.Need-returns
 returns c =
     let a = c .before .before .before .before .before .args in
     sym
-    (front-refused (sharingRows (now (a .weights)) (a .room)) (amountRows (a .scale) (a .m) (a .currency)) (c .before .refusal .given .0 .0)
+    (front-refused (amountRows (a .scale) (a .m) (a .currency)) (sharingRows (now (a .weights)) (a .room)) (c .before .refusal .given .0 .0)
     (sym (c .before .before .before .check-one .ensures) ∙ c .before .refusal .given .1))
 
 returns-2 : tie.Need-returns-2
 returns-2 c =
     let a = c .before .before .before .before .before .args in
     c .check .ensures
-    ∙ sym (front-passed (sharingRows (now (a .weights)) (a .room)) (amountRows (a .scale) (a .m) (a .currency))
+    ∙ sym (front-passed (amountRows (a .scale) (a .m) (a .currency)) (sharingRows (now (a .weights)) (a .room))
     (sym (c .before .before .before .check-one .ensures) ∙ c .before .enum-told .given .1))
 
 pub check-spec : {M : Type 1} → statement M

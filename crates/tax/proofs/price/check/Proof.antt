@@ -28,14 +28,14 @@ unfolding taxRows
 returns c =
     let a = c .before .before .before .before .args in
     sym
-    (front-refused (row Rate (ltb million (a .rate)) ∷ []) (amountRows (a .scale) (a .m) (a .currency)) (c .before .refusal .given .0 .0)
+    (front-refused (amountRows (a .scale) (a .m) (a .currency)) (row Rate (ltb million (a .rate)) ∷ []) (c .before .refusal .given .0 .0)
     (sym (c .before .before .before .check-one .ensures) ∙ c .before .refusal .given .1))
 
 -- what `check_one` let pass leaves the rate
 at-rate : (scale m currency rate : ℕ) → checkOf (amountRows scale m currency) ≡ Passed
     → checkOf (taxRows scale m currency rate) ≡ checkOf (row Rate (ltb million rate) ∷ [])
 unfolding taxRows
-at-rate scale m currency rate = front-passed (row Rate (ltb million rate) ∷ []) (amountRows scale m currency)
+at-rate scale m currency rate = front-passed (amountRows scale m currency) (row Rate (ltb million rate) ∷ [])
 
 returns-2 : tie.Need-returns-2
 returns-2 c =

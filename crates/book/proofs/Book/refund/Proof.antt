@@ -1,0 +1,72 @@
+-- A refused check is the row that it names; what passed is within the limits, and its payouts are the rule's. Assumes nothing.
+use mathlib.Core.Path.{_≡_, sym, _∙_}
+use Prim.Native.Nat.{_≤_}
+use native.Mathlib.Omega.{arith}
+use borrow.Author.Needs.{needs}
+use Rattle.refusal.specs.declared.Checked.the-variants.{Passed}
+use Rattle.refusal.specs.Rows.{checkOf}
+use Rattle.book.specs.Moves.{netOf, unitsOf}
+use Rattle.book.proofs.Answered.{Fit, refundRows, refund-fit, refund-refused, refund-passed}
+use Rattle.book.proofs.Book.refund.Statement.{statement}
+use Rattle.book.proofs.Book.refund.Tie as tie
+
+check-refund-requires : tie.Need-check-refund-requires
+check-refund-requires c κs = search needs
+
+enum-known-refusal : tie.Need-enum-known-refusal
+enum-known-refusal c = search needs
+
+refused-requires : tie.Need-refused-requires
+refused-requires c κs = search needs
+
+enum-told : tie.Need-enum-told
+enum-told c = search needs
+
+passed : (c : tie.After-enum-told) → checkOf (refundRows (c .before .before .before .args .self) (c .before .before .before .args .amount)) ≡ Passed
+passed c = sym (c .before .before .check-refund .ensures) ∙ c .enum-told .given .1
+
+net-of-requires : tie.Need-net-of-requires
+net-of-requires c κs = search needs
+
+units-of-requires : tie.Need-units-of-requires
+units-of-requires c κs = search needs
+
+fit : (c : tie.After-units-of) → Fit (c .before .before .before .before .before .args .self) (c .before .before .before .before .before .args .amount) × (unitsOf (c .before .before .before .before .before .args .amount) ≤ netOf (c .before .before .before .before .before .args .self))
+fit c = refund-fit (c .before .before .before .before .before .args .self) (c .before .before .before .before .before .args .amount) (passed (c .before .before))
+
+sub-next : tie.Need-sub-next
+sub-next c = omega (arith, fit c .1, c .before .net-of .ensures, c .units-of .ensures)
+
+moved-requires : tie.Need-moved-requires
+moved-requires c κs =
+    let f = fit c .0 in
+    (f .some, f .most, omega arith, omega (arith, f .net, c .before .net-of .ensures), omega (arith, f .net, c .before .net-of .ensures))
+
+returns : tie.Need-returns
+returns c =
+    let s = c .before .before .before .before in
+    let a = s .before .args in
+    refund-refused (a .self) (a .amount) (c .refused .result) (c .before .before .refusal .given .0 .0)
+    (sym (s .check-refund .ensures) ∙ c .before .before .refusal .given .1) (c .refused .ensures)
+
+returns-2 : tie.Need-returns-2
+returns-2 c =
+    let n = c .before .before in
+    let a = n .before .before .before .before .args in
+    refund-passed (a .self) (a .amount) (c .moved .result) (n .net-of .result) (c .before .units-of .result) (n .net-of .ensures) (c .before .units-of .ensures)
+    (passed (n .before)) (c .moved .ensures)
+
+pub refund-spec : {M : Type 1} → statement M
+refund-spec =
+    tie.close
+    (tie.spec
+    check-refund-requires
+    enum-known-refusal
+    refused-requires
+    enum-told
+    net-of-requires
+    units-of-requires
+    sub-next
+    moved-requires
+    returns
+    returns-2)

@@ -1,0 +1,81 @@
+-- Rows 2 to 10 decide first, and behind them the last row. Assumes nothing.
+use mathlib.Core.Path.{_≡_, sym, ap, _∙_}
+use mathlib.Core.Bool.{Bool}
+use mathlib.Core.List.{List, [], _∷_}
+use Prim.Native.Nat.{_+_, _≤_, _<_}
+use native.Mathlib.Omega.{arith}
+use borrow.Author.Needs.{needs}
+use borrow.Author.Tests.{lt-ltb, le-ltb}
+use Rattle.refusal.specs.declared.Checked.the-variants.{Passed}
+use Rattle.refusal.specs.declared.Refusal.the-variants.{Limit}
+use Rattle.refusal.specs.Rows.{Row, row, checkOf}
+use Rattle.amount.specs.declared.Amount.{Amount}
+use Rattle.amount.specs.Amounts.{largest, overL}
+use Rattle.book.specs.declared.Book.{Book}
+use Rattle.book.specs.Moves.{netOf, unitsOf, moveRows}
+use Rattle.refusal.proofs.Joined.{front-refused, front-passed}
+use Rattle.book.proofs.Answered.{Fit, move-fit}
+use Rattle.book.proofs.checks.check_post.Statement.{statement}
+use Rattle.book.proofs.checks.check_post.Tie as tie
+
+-- the last row
+abbrev last : Book → Amount → List Row
+last b a = row Limit (overL (netOf b + unitsOf a)) ∷ []
+
+check-move-requires : tie.Need-check-move-requires
+check-move-requires c κs = search needs
+
+enum-known-refusal : tie.Need-enum-known-refusal
+enum-known-refusal c = search needs
+
+enum-told : tie.Need-enum-told
+enum-told c = search needs
+
+passed : (c : tie.After-enum-told) → checkOf (moveRows (c .before .before .before .args .book) (c .before .before .before .args .amount)) ≡ Passed
+passed c = sym (c .before .before .check-move .ensures) ∙ c .enum-told .given .1
+
+net-of-requires : tie.Need-net-of-requires
+net-of-requires c κs = search needs
+
+units-of-requires : tie.Need-units-of-requires
+units-of-requires c κs = search needs
+
+add-if1 : tie.Need-add-if1
+add-if1 c =
+    let a = c .before .before .before .before .before .args in
+    let fit : Fit (a .book) (a .amount) = move-fit (a .book) (a .amount) (passed (c .before .before)) in
+    omega (arith, c .before .net-of .ensures, c .units-of .ensures)
+
+returns : tie.Need-returns
+returns c =
+    let s = c .before .before .before in
+    let a = s .before .args in
+    sym (front-refused (moveRows (a .book) (a .amount)) (last (a .book) (a .amount)) (c .before .refusal .given .0 .0) (sym (s .check-move .ensures) ∙ c .before .refusal .given .1))
+
+returns-2 : tie.Need-returns-2
+returns-2 c =
+    let a = c .before .before .before .before .before .before .args in
+    let over : largest < netOf (a .book) + unitsOf (a .amount) = omega (arith, c .before .before .net-of .ensures, c .before .units-of .ensures, c .if1 .taken) in
+    sym (front-passed (moveRows (a .book) (a .amount)) (last (a .book) (a .amount)) (passed (c .before .before .before))
+    ∙ ap (λ (s : Bool). checkOf (row Limit s ∷ [])) (lt-ltb largest (netOf (a .book) + unitsOf (a .amount)) over))
+
+returns-3 : tie.Need-returns-3
+returns-3 c =
+    let a = c .before .before .before .before .before .before .args in
+    let within : netOf (a .book) + unitsOf (a .amount) ≤ largest = omega (arith, c .before .before .net-of .ensures, c .before .units-of .ensures, c .if1 .left) in
+    sym (front-passed (moveRows (a .book) (a .amount)) (last (a .book) (a .amount)) (passed (c .before .before .before))
+    ∙ ap (λ (s : Bool). checkOf (row Limit s ∷ [])) (le-ltb largest (netOf (a .book) + unitsOf (a .amount)) within))
+
+pub check-post-spec : {M : Type 1} → statement M
+check-post-spec =
+    tie.close
+    (tie.spec
+    check-move-requires
+    enum-known-refusal
+    enum-told
+    net-of-requires
+    units-of-requires
+    add-if1
+    returns
+    returns-2
+    returns-3)

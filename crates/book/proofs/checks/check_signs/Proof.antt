@@ -1,0 +1,15 @@
+-- Each flag is its row. Assumes nothing.
+use Rattle.book.proofs.checks.check_signs.Statement.{statement}
+use Rattle.book.proofs.checks.check_signs.Tie as tie
+
+returns : tie.Need-returns
+returns c = rw (c .if1 .taken)
+
+returns-2 : tie.Need-returns-2
+returns-2 c = rw (c .before .if1 .left, c .if2 .taken)
+
+returns-3 : tie.Need-returns-3
+returns-3 c = rw (c .before .if1 .left, c .if2 .left)
+
+pub check-signs-spec : {M : Type 1} → statement M
+check-signs-spec = tie.close (tie.spec returns returns-2 returns-3)

@@ -1,0 +1,48 @@
+-- Demand 3 of the mission, for any history of postings, refunds and refused calls on an opened book: what a history is, and what
+-- is promised of it. The theorem is proofs/Demand3.antt. Assumes nothing.
+use mathlib.Core.Path.{_≡_}
+use mathlib.Core.List.{List, [], _∷_}
+use Prim.Native.Nat.{ℕ, _+_, _-_, _*_, _/_, _≤_}
+use lib.ListN.{getD}
+use Rattle.whole.specs.Sums.{sumOf}
+use Rattle.amount.specs.declared.Amount.{Amount}
+use Rattle.units.specs.Rule.{totals}
+use Rattle.book.specs.declared.Book.{Book}
+use Rattle.book.specs.declared.Moved.{Moved}
+use Rattle.book.specs.Books.{zeros}
+use Rattle.book.specs.Moves.{netOf, Posts, Refunds}
+
+-- place by place, the sum of two lists
+unfoldable pub plusOf : List ℕ → List ℕ → List ℕ
+plusOf [] ys = ys
+plusOf (x ∷ xs) [] = x ∷ xs
+plusOf (x ∷ xs) (y ∷ ys) = (x + y) ∷ plusOf xs ys
+
+-- A history on an opened book: any calls with any amounts, accepted or refused, each given the book that the last one returned.
+-- It ends with a book, with what each partner was paid, and with what was taken back from each. Of a call it knows nothing but its promise.
+pub data History (opened : Book) : (book : Book) (paid taken : List ℕ) → Type 0 where
+  none : History opened opened zeros zeros
+  posted : {b : Book} {paid taken : List ℕ} → History opened b paid taken → (a : Amount) (r : Moved) → Posts b a r
+      → History opened (r .book) (plusOf paid (r .payouts)) taken
+  refunded : {b : Book} {paid taken : List ℕ} → History opened b paid taken → (a : Amount) (r : Moved) → Refunds b a r
+      → History opened (r .book) paid (plusOf taken (r .payouts))
+
+-- the running total of the partner at place i: what it was paid, less what was taken back
+abbrev pub running : (paid taken : List ℕ) (i : ℕ) → ℕ
+running paid taken i = getD paid i 0 - getD taken i 0
+
+-- the exact share N x weight / W of the partner at place i, rounded down and rounded up
+abbrev pub roundedDown : Book → ℕ → ℕ
+roundedDown b i = netOf b * getD (b .weights) i 0 / sumOf (b .weights)
+
+abbrev pub roundedUp : Book → ℕ → ℕ
+roundedUp b i = (netOf b * getD (b .weights) i 0 + (sumOf (b .weights) - 1)) / sumOf (b .weights)
+
+-- after each call: "every running total is between N x weight / W rounded down and rounded up, the totals add to N, ... and they are
+-- those of document 01's rule"; nothing was taken back that had not been paid
+pub record Kept (b : Book) (paid taken : List ℕ) : Type 0 where
+  pub covered : (i : ℕ) → getD taken i 0 ≤ getD paid i 0
+  pub atLeast : (i : ℕ) → roundedDown b i ≤ running paid taken i
+  pub atMost : (i : ℕ) → running paid taken i ≤ roundedUp b i
+  pub added : sumOf paid ≡ sumOf taken + netOf b
+  pub byRule : (i : ℕ) → running paid taken i ≡ getD (totals (b .weights) (netOf b)) i 0

@@ -1,0 +1,3 @@
+pub mod Books
+pub mod Moves
+pub mod History

@@ -1,0 +1,112 @@
+-- Document 01, "The share book": opening, posting, refunding, and the running totals. Who gets which unit is `totals` of `units`.
+-- Cited by `Book::open`, `Book::post`, `Book::refund`, `Book::totals`. Assumes nothing.
+use mathlib.Core.Path.{_≡_}
+use mathlib.Core.Bool.{Bool}
+use mathlib.Core.List.{List, [], _∷_, _++_}
+use Prim.Native.Nat.{ℕ, zero, suc, _+_, _-_}
+use lib.Dec.{ltb}
+use lib.IntN.{ℤ, pos}
+use lib.ListN.{length, replicate}
+use Rattle.refusal.specs.Rows.{Said, gives, refuses, meansOutcome, Row, row, firstRow}
+use Rattle.refusal.specs.declared.Refusal.the-variants.{Magnitude, Unknown, Negative, Refund, Limit}
+use Rattle.whole.specs.Whole.{negative, magnitudeOf}
+use Rattle.amount.specs.declared.Amount.{Amount}
+use Rattle.amount.specs.declared.Currency.{Currency}
+use Rattle.amount.specs.Amounts.{overL, unknown}
+use Rattle.units.specs.Rule.{totals}
+use Rattle.book.specs.declared.Book.{Book}
+use Rattle.book.specs.declared.Opened.{Opened}
+use Rattle.book.specs.declared.Moved.{Moved}
+use Rattle.book.specs.declared.Totals.{Totals}
+use Rattle.book.specs.Books.{partners, zeros, weightRows, givenRows, signRows}
+
+-- the net total N and an amount's A as numbers: neither is negative where a call is accepted
+abbrev pub netOf : Book → ℕ
+netOf b = magnitudeOf (b .net)
+
+abbrev pub unitsOf : Amount → ℕ
+unitsOf a = magnitudeOf (a .coefficient)
+
+-- the rows of a posting or a refund, before the last one of each
+unfoldable pub moveRows : Book → Amount → List Row
+moveRows b a =
+    givenRows (a .scale) (unitsOf a) (a .currency .0) (netOf b) (b .currency .0)
+    ++ (weightRows (b .count) (b .weights) ++ signRows (negative (a .coefficient)) (negative (b .net)))
+
+-- "A posting of A pays each partner the difference of its running totals at N + A and N": the new net total, or the refusal;
+-- row 13, "the new net total has a magnitude over L"
+unfoldable pub postSaid : Book → Amount → Said ℕ
+postSaid b a = firstRow (moveRows b a ++ (row Limit (overL (netOf b + unitsOf a)) ∷ [])) (gives (netOf b + unitsOf a))
+
+-- "a refund of A takes back the difference at N and N - A"; row 12, "a refund is greater than the net total"
+unfoldable pub refundSaid : Book → Amount → Said ℕ
+refundSaid b a = firstRow (moveRows b a ++ (row Refund (ltb (netOf b) (unitsOf a)) ∷ [])) (gives (netOf b - unitsOf a))
+
+-- "A refused posting or refund returns the book it was given, field for field"; an accepted one the book at the new net total
+unfoldable pub nextBook : Book → Said ℕ → Book
+nextBook b (gives n) = record { currency = b .currency; count = b .count; weights = b .weights; net = pos n }
+nextBook b (refuses number blamed) = b
+
+-- place by place, the one list less the other
+unfoldable pub lessOf : List ℕ → List ℕ → List ℕ
+lessOf [] ys = []
+lessOf (x ∷ xs) [] = x ∷ xs
+lessOf (x ∷ xs) (y ∷ ys) = (x - y) ∷ lessOf xs ys
+
+-- the payouts of a posting and of a refund to net total n; "with 16 payouts of zero" where it is refused
+unfoldable pub paidOf : Book → Said ℕ → List ℕ
+paidOf b (gives n) = lessOf (totals (b .weights) n) (totals (b .weights) (netOf b))
+paidOf b (refuses number blamed) = zeros
+
+unfoldable pub takenOf : Book → Said ℕ → List ℕ
+takenOf b (gives n) = lessOf (totals (b .weights) (netOf b)) (totals (b .weights) n)
+takenOf b (refuses number blamed) = zeros
+
+-- the answer of a call that says `said`: its outcome, the next book and the payouts
+pub record Answers (b : Book) (said : Said ℕ) (payouts : List ℕ) (r : Moved) : Type 0 where
+  pub outcome : meansOutcome (r .outcome) (magnitudeOf (r .book .net)) ≡ said
+  pub book : r .book ≡ nextBook b said
+  pub paid : r .payouts ≡ payouts
+
+abbrev pub Posts : Book → Amount → Moved → Type 0
+Posts b a r = Answers b (postSaid b a) (paidOf b (postSaid b a)) r
+
+abbrev pub Refunds : Book → Amount → Moved → Type 0
+Refunds b a r = Answers b (refundSaid b a) (takenOf b (refundSaid b a)) r
+
+-- the book whose every field is 0
+unfoldable pub zeroBook : Book
+zeroBook = record { currency = record { 0 = 0 }; count = 0; weights = zeros; net = pos 0 }
+
+-- "It opens with N = 0": the weights in front, those past the count 0
+unfoldable pub openBook : Currency → List ℕ → Book
+openBook c ws = record { currency = c; count = length ws; weights = ws ++ replicate (partners - length ws) 0; net = pos 0 }
+
+-- an opening takes a currency and weights: rows 4 and 9
+unfoldable pub openSaid : Currency → List ℕ → Said Book
+openSaid c ws = firstRow (row Unknown (unknown (c .0)) ∷ weightRows (length ws) ws) (gives (openBook c ws))
+
+-- "A refused opening has in the book's place one whose every field is 0"
+unfoldable pub openedBook : Said Book → Book
+openedBook (gives b) = b
+openedBook (refuses number blamed) = zeroBook
+
+pub record Opens (c : Currency) (ws : List ℕ) (r : Opened) : Type 0 where
+  pub outcome : meansOutcome (r .outcome) (r .book) ≡ openSaid c ws
+  pub book : r .book ≡ openedBook (openSaid c ws)
+
+-- "The running total of a partner at N": of a given book, rows 3, 4, 9 and 10
+unfoldable pub totalsSaid : Book → Said (List ℕ)
+totalsSaid b =
+    firstRow
+    (row Magnitude (overL (netOf b)) ∷ row Unknown (unknown (b .currency .0)) ∷ weightRows (b .count) (b .weights)
+    ++ (row Negative (negative (b .net)) ∷ []))
+    (gives (totals (b .weights) (netOf b)))
+
+unfoldable pub totalsOf : Said (List ℕ) → List ℕ
+totalsOf (gives ts) = ts
+totalsOf (refuses number blamed) = zeros
+
+pub record Runs (b : Book) (r : Totals) : Type 0 where
+  pub outcome : meansOutcome (r .outcome) (r .totals) ≡ totalsSaid b
+  pub totals : r .totals ≡ totalsOf (totalsSaid b)

@@ -1,0 +1,64 @@
+// Opening a book.
+use crate::Book;
+use crate::Opened;
+use crate::weights::check_weights;
+use crate::weights::placed;
+use amount::Currency;
+use refusal::Checked;
+use refusal::Refusal;
+ghost use mathlib.Core.Path.{_≡_};
+ghost use mathlib.Core.List.{_∷_};
+ghost use lib.ListN.{length};
+ghost use Rattle.refusal.specs.Rows.{row, checkOf};
+ghost use Rattle.refusal.specs.declared.Refusal.the-variants.{Unknown};
+ghost use Rattle.amount.specs.Amounts.{unknown};
+ghost use Rattle.book.specs.Books.{weightRows};
+ghost use Rattle.book.specs.Moves.{zeroBook, Opens};
+
+// Rows 4 and 9 at a currency number and a list of weights, which is summed only where it has places in a book.
+fn check_open(currency: u8, weights: &[u32]) -> Checked
+    ensures { λ r. ⌜ r ≡ checkOf (row Unknown (unknown currency) ∷ weightRows (length (now (weights .entry))) (now (weights .entry))) ⌝ }
+{
+    if Currency::LAST < currency {
+        return Checked::Refused(Refusal::Unknown);
+    }
+    if Book::PARTNERS < weights.len() {
+        return Checked::Refused(Refusal::Weights);
+    }
+    check_weights(weights.len(), placed(weights))
+}
+
+// The book whose every field is 0.
+fn zero_book() -> Book
+    ensures { λ r. ⌜ r ≡ zeroBook ⌝ }
+{
+    Book {
+        currency: Currency(0),
+        count: 0,
+        weights: [0; Book::PARTNERS],
+        net: 0,
+    }
+}
+
+impl Book {
+    // A book with these weights, as many partners as there are, and a net total of 0.
+    pub fn open(currency: Currency, weights: &[u32]) -> Opened
+        ensures { λ r. ⌜ Opens currency (now (weights .entry)) r ⌝ }
+    {
+        match check_open(currency.0, weights) {
+            Checked::Refused(refusal) => Opened {
+                outcome: Checked::Refused(refusal),
+                book: zero_book(),
+            },
+            Checked::Passed => Opened {
+                outcome: Checked::Passed,
+                book: Book {
+                    currency,
+                    count: weights.len() as u8,
+                    weights: placed(weights),
+                    net: 0,
+                },
+            },
+        }
+    }
+}

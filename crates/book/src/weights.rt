@@ -1,0 +1,61 @@
+// The weights of a book: their sums, row 9 of the table of refusals, and a list of weights in a book's sixteen places.
+use crate::Book;
+use refusal::Checked;
+use refusal::Refusal;
+ghost use mathlib.Core.Path.{_≡_};
+ghost use mathlib.Core.List.{_++_};
+ghost use Prim.Native.Nat.{_-_, _≤_};
+ghost use lib.ListN.{length, drop, replicate};
+ghost use Rattle.refusal.specs.Rows.{checkOf};
+ghost use Rattle.whole.specs.Sums.{sumOf};
+ghost use Rattle.book.specs.Books.{partners, weightRows};
+
+// The sum of the weights from a place on.
+pub(crate) fn sum_from(weights: [u32; Book::PARTNERS], from: usize) -> u64
+    ensures { λ r. ⌜ r ≡ sumOf (drop from weights) ⌝ }
+{
+    let mut sum: u64 = 0;
+    let mut i = Book::PARTNERS;
+    while from < i {
+        i -= 1;
+        sum += weights[i] as u64;
+    }
+    sum
+}
+
+// Row 9 at a count and the sixteen places.
+pub(crate) fn check_weights(count: usize, weights: [u32; Book::PARTNERS]) -> Checked
+    ensures { λ r. ⌜ r ≡ checkOf (weightRows count weights) ⌝ }
+{
+    if count < 1 {
+        return Checked::Refused(Refusal::Weights);
+    }
+    if Book::PARTNERS < count {
+        return Checked::Refused(Refusal::Weights);
+    }
+    if 0 < sum_from(weights, count) {
+        return Checked::Refused(Refusal::Weights);
+    }
+    let sum = sum_from(weights, 0);
+    if sum < 1 {
+        return Checked::Refused(Refusal::Weights);
+    }
+    if Book::WEIGHT_SUM < sum {
+        return Checked::Refused(Refusal::Weights);
+    }
+    Checked::Passed
+}
+
+// A list of at most sixteen weights, with noughts behind it.
+pub(crate) fn placed(list: &[u32]) -> [u32; Book::PARTNERS]
+    requires { ⌜ length (now list) ≤ partners ⌝ }
+    ensures { λ r. ⌜ r ≡ now (list .entry) ++ replicate (partners - length (now (list .entry))) 0 ⌝ }
+{
+    let mut weights: [u32; Book::PARTNERS] = [0; Book::PARTNERS];
+    let mut i = 0;
+    while i < list.len() {
+        weights[i] = list[i];
+        i += 1;
+    }
+    weights
+}

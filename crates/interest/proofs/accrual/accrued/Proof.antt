@@ -1,0 +1,68 @@
+-- The factors are within their limits, so the product fits, and the rounded magnitude, which is at most the product, fits with its
+-- sign. Assumes nothing.
+use mathlib.Core.Path.{_≡_, refl, _∙_, ap, ap₂}
+use Prim.Native.Nat.{ℕ, _*_}
+use native.Mathlib.Omega.{arith}
+use borrow.Author.Needs.{needs}
+use Rattle.whole.specs.Whole.{heldSigned}
+use Rattle.whole.proofs.Laws.{read-back}
+use Rattle.rounding.specs.Leaf.{roundedMagnitude}
+use Rattle.rounding.proofs.Value.{held-rounded}
+use Rattle.interest.specs.DayCount.{basisOf}
+use Rattle.interest.specs.Accrual.{accruedTo}
+use Rattle.interest.proofs.Accrued.{year-at-most, points-fit, product-fits}
+use Rattle.interest.proofs.accrual.accrued.Statement.{statement}
+use Rattle.interest.proofs.accrual.accrued.Tie as tie
+
+count-of-requires : tie.Need-count-of-requires
+count-of-requires c κs = search needs
+
+cast-days : tie.Need-cast-days
+cast-days c = search needs
+
+mul-product : tie.Need-mul-product
+mul-product c = omega (arith, points-fit (c .before .pre) (c .count-of .result) (c .count-of .ensures))
+
+mul-product-2 : tie.Need-mul-product-2
+mul-product-2 c = omega (arith, product-fits (c .before .pre) (c .count-of .result) (c .count-of .ensures))
+
+year-of-requires : tie.Need-year-of-requires
+year-of-requires c κs = search needs
+
+mul-round : tie.Need-mul-round
+mul-round c = omega (arith, c .year-of .ensures, year-at-most (c .before .before .args .basis))
+
+round-requires : tie.Need-round-requires
+round-requires c κs = search needs
+
+signed-requires : tie.Need-signed-requires
+signed-requires c κs = search needs
+
+returns : tie.Need-returns
+unfolding accruedTo
+returns c =
+    let s = c .before .before .before in
+    let a = s .before .args in
+    let days = basisOf (a .basis) .count (a .start) (a .end) in
+    let n : s .count-of .result ≡ days = s .count-of .ensures in
+    let d = 10000 * basisOf (a .basis) .year in
+    read-back (c .signed .result) (c .signed .ok)
+    ∙ c .signed .ensures
+    ∙ ap (heldSigned (a .negative))
+    (c .before .round .ensures
+    ∙ ap₂ (roundedMagnitude (a .rule) (a .negative)) (ap (λ (x : ℕ). a .m * (a .rate * x)) n) (ap (λ (x : ℕ). 10000 * x) (c .before .before .year-of .ensures)))
+    ∙ held-rounded (a .rule) (a .negative) (a .m * (a .rate * days)) d (omega (arith, product-fits (s .before .pre) days refl))
+
+pub accrued-spec : {M : Type 1} → statement M
+accrued-spec =
+    tie.close
+    (tie.spec
+    count-of-requires
+    cast-days
+    mul-product
+    mul-product-2
+    year-of-requires
+    mul-round
+    round-requires
+    signed-requires
+    returns)

@@ -1,0 +1,79 @@
+-- A refused check is the row that it names; what passed is the interest by the principal's sign and magnitude, asked against row 13.
+-- Assumes nothing.
+use mathlib.Core.Path.{_≡_, sym, _∙_, ap}
+use borrow.Author.Needs.{needs}
+use mir.Syntax.{w64}
+use mir.Val.{SFits, toZ, ofZ}
+use mir.ValLaws.{toZ-ofZ}
+use Rattle.whole.specs.Whole.{negative, magnitudeOf}
+use Rattle.whole.proofs.Laws.{read-back}
+use Rattle.interest.proofs.Accrued.{accrues, said-refused, said-made}
+use Rattle.interest.proofs.accrual.by_rule.Statement.{statement}
+use Rattle.interest.proofs.accrual.by_rule.Tie as tie
+
+is-negative-requires : tie.Need-is-negative-requires
+is-negative-requires c κs = search needs
+
+magnitude-requires : tie.Need-magnitude-requires
+magnitude-requires c κs = search needs
+
+check-requires : tie.Need-check-requires
+check-requires c κs = search needs
+
+enum-known-refusal : tie.Need-enum-known-refusal
+enum-known-refusal c = search needs
+
+enum-told : tie.Need-enum-told
+enum-told c = search needs
+
+-- the sign and the magnitude of the principal
+asked : (c : tie.After-magnitude)
+    → (c .before .before .is-negative .result ≡ negative (c .before .before .before .before .args .principal .coefficient))
+    × (c .magnitude .result ≡ magnitudeOf (c .before .before .before .before .args .principal .coefficient))
+asked c =
+    let z = c .before .before .before .before .args .principal .coefficient in
+    let fits : SFits w64 z = search needs in
+    (c .before .before .is-negative .ensures ∙ ap negative (toZ-ofZ w64 z fits), c .magnitude .ensures ∙ ap magnitudeOf (toZ-ofZ w64 z fits))
+
+accrued-requires : tie.Need-accrued-requires
+accrued-requires c κs =
+    let s = c .before .before .before in
+    let a = s .before .before .before .before .before .args in
+    accrues (a .principal .scale) (s .before .magnitude .result) (a .principal .currency .0) (a .rate) (a .basis) (a .start) (a .end)
+    (sym (s .check .ensures) ∙ c .before .enum-told .given .1)
+
+within-requires : tie.Need-within-requires
+within-requires c κs = search needs
+
+returns : tie.Need-returns
+returns c =
+    let s = c .before .before .before in
+    let a = s .before .before .before .before .before .args in
+    said-refused (a .rule) (a .principal) (a .rate) (a .basis) (a .start) (a .end) (s .before .magnitude .result) (asked (s .before) .1)
+    (c .before .refusal .given .0 .0) (sym (s .check .ensures) ∙ c .before .refusal .given .1)
+
+returns-2 : tie.Need-returns-2
+returns-2 c =
+    let told = c .before .before .before in
+    let s = told .before .before in
+    let a = s .before .before .before .before .before .args in
+    let n = c .before .accrued .result in
+    c .within .ensures
+    ∙ said-made (a .rule) (a .principal) (a .rate) (a .basis) (a .start) (a .end) (s .before .magnitude .result) (asked (s .before) .1)
+    (s .before .before .before .is-negative .result) (asked (s .before) .0) (toZ w64 (ofZ w64 n))
+    (read-back n (c .before .accrued .ok) ∙ c .before .accrued .ensures)
+    (sym (s .check .ensures) ∙ told .enum-told .given .1)
+
+pub by-rule-spec : {M : Type 1} → statement M
+by-rule-spec =
+    tie.close
+    (tie.spec
+    is-negative-requires
+    magnitude-requires
+    check-requires
+    enum-known-refusal
+    enum-told
+    accrued-requires
+    within-requires
+    returns
+    returns-2)
