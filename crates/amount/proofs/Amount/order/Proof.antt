@@ -7,10 +7,7 @@ use mir.ValLaws.{toZ-ofZ}
 use Rattle.refusal.specs.Rows.{gives, checkOf}
 use Rattle.refusal.proofs.Check.{passed, refused}
 use Rattle.whole.specs.Whole.{magnitudeOf}
-use Rattle.amount.specs.declared.Amount.{Amount}
-use Rattle.amount.specs.declared.Order.{Order}
-use Rattle.amount.specs.Amounts.{raisedTo}
-use Rattle.amount.specs.Sum.{rowsOfTwo, greaterScale, compared, orderSaid}
+use Rattle.amount.specs.Sum.{rowsOfTwo, orderSaid}
 use Rattle.amount.proofs.ByWorth.{found}
 use Rattle.amount.proofs.Limits.{pair, read-rows}
 use Rattle.amount.proofs.Amount.order.Statement.{statement}

@@ -9,9 +9,8 @@ use Rattle.refusal.specs.Rows.{checkOf}
 use Rattle.refusal.proofs.Check.{passed, refused}
 use Rattle.whole.specs.Whole.{magnitudeOf}
 use Rattle.whole.proofs.Laws.{read-back}
-use Rattle.amount.specs.declared.Amount.{Amount}
 use Rattle.amount.specs.Amounts.{limited}
-use Rattle.amount.specs.Sum.{rowsOfTwo, greaterScale, total, sumSaid}
+use Rattle.amount.specs.Sum.{rowsOfTwo, total, sumSaid}
 use borrow.Author.Needs.{needs}
 use Rattle.amount.proofs.Limits.{pair, read-rows}
 use Rattle.amount.proofs.SumLaws.{made}
