@@ -51,3 +51,8 @@ on-thousand = (refl, refl, refl)
 pub interest-refused : (onThousand 0 (leapDay 1900) (leapDay 1900) ≡ refuses 7 1) × (interestSaid (centsOf 21 100000) 500 0 february march 7 ≡ refuses 1 0)
 unfolding leap monthLength exists daysOfMonths daysOfYears dayNumber actual thirty daysRows badMode ruleOf restOf isOdd roundedMagnitude rounded interestRows interestOf interestSaid
 interest-refused = (refl, refl)
+
+-- the table's row 13 at an interest: L at 10,000 points over 366 days, by a year of 360
+pub interest-over-limit : interestSaid (centsOf 0 99999999999) 10000 0 (record { year = 2023; month = 1; day = 1 }) (record { year = 2024; month = 1; day = 2 }) 4 ≡ refuses 13 0
+unfolding leap monthLength exists daysOfMonths daysOfYears dayNumber actual thirty daysRows badMode ruleOf restOf isOdd roundedMagnitude rounded interestRows interestOf interestSaid
+interest-over-limit = refl

@@ -60,35 +60,35 @@ takers ws from (suc n) = placeOf (takerOf ws (totals ws from) (suc from)) (taker
 -- what the definitions say of each case
 unfoldable pub said : List (List ℤ)
 said =
-    numbers one (plainSaid 6 (negsuc 4) 2) -- -5/2 HALF_EVEN
-    ∷ numbers one (plainSaid 3 (negsuc 4) 2) -- -5/2 FLOOR
-    ∷ converted 2 (pos 10000) 0 -- 100.00 DEM to EUR
-    ∷ (toEuro (lineOf 2) stepDecimals (pos 10000) ∷ converted 2 (pos 10000) 4) -- 100.00 DEM to FRF, with the euro step
-    ∷ converted 2 (pos 100000000) 0 -- 1,000,000.00 DEM to EUR
-    ∷ (converted 0 (pos 2) 5 ++ converted 5 (pos 2) 0) -- 0.02 EUR to IEP; back
-    ∷ (numbers (λ n. pos n ∷ []) (daysSaid 2 start end) ++ numbers coefficient (interestSaid (amount 0 (pos 100000)) 500 2 start end 4)) -- 1000.00 EUR at 500 points, 2023-02-28 to 2023-03-31, HALF_UP, basis 2
-    ∷ numbers taxAndNet (fromGrossSaid (amount 0 (pos 100)) 200000 4) -- Gross 1.00 at 200,000, HALF_UP: tax, net
-    ∷ shared (pos 100) (1 ∷ 1 ∷ 1 ∷ []) -- 100 by 1, 1, 1
-    ∷ shared (pos 100) (3 ∷ 3 ∷ 1 ∷ []) -- 100 by 3, 3, 1
-    ∷ shared (negsuc 99) (3 ∷ 3 ∷ 1 ∷ []) -- -100 by 3, 3, 1
-    ∷ takers (5 ∷ 3 ∷ 2 ∷ []) 0 10 -- Book 5, 3, 2 from empty: units 1 to 10
-    ∷ map pos (totals (5 ∷ 3 ∷ 2 ∷ []) 9) -- after posting 7 and 5 and refunding 3: totals
+    numbers one (plainSaid 6 (negsuc 4) 2)  -- -5/2 HALF_EVEN
+    ∷ numbers one (plainSaid 3 (negsuc 4) 2)  -- -5/2 FLOOR
+    ∷ converted 2 (pos 10000) 0  -- 100.00 DEM to EUR
+    ∷ (toEuro (lineOf 2) stepDecimals (pos 10000) ∷ converted 2 (pos 10000) 4)  -- 100.00 DEM to FRF, with the euro step
+    ∷ converted 2 (pos 100000000) 0  -- 1,000,000.00 DEM to EUR
+    ∷ (converted 0 (pos 2) 5 ++ converted 5 (pos 2) 0)  -- 0.02 EUR to IEP; back
+    ∷ (numbers (λ n. pos n ∷ []) (daysSaid 2 start end) ++ numbers coefficient (interestSaid (amount 0 (pos 100000)) 500 2 start end 4))  -- 1000.00 EUR at 500 points, 2023-02-28 to 2023-03-31, HALF_UP, basis 2
+    ∷ numbers taxAndNet (fromGrossSaid (amount 0 (pos 100)) 200000 4)  -- Gross 1.00 at 200,000, HALF_UP: tax, net
+    ∷ shared (pos 100) (1 ∷ 1 ∷ 1 ∷ [])  -- 100 by 1, 1, 1
+    ∷ shared (pos 100) (3 ∷ 3 ∷ 1 ∷ [])  -- 100 by 3, 3, 1
+    ∷ shared (negsuc 99) (3 ∷ 3 ∷ 1 ∷ [])  -- -100 by 3, 3, 1
+    ∷ takers (5 ∷ 3 ∷ 2 ∷ []) 0 10  -- Book 5, 3, 2 from empty: units 1 to 10
+    ∷ map pos (totals (5 ∷ 3 ∷ 2 ∷ []) 9)  -- after posting 7 and 5 and refunding 3: totals
     ∷ []
 
 -- what document 01 prints
 abbrev pub printed : List (List ℤ)
 printed =
-    (negsuc 1 ∷ []) -- -2
-    ∷ (negsuc 2 ∷ []) -- -3
-    ∷ (pos 5113 ∷ []) -- 51.13
-    ∷ (pos 51129 ∷ pos 33538 ∷ []) -- 335.38 (euro step 51.129)
-    ∷ (pos 51129188 ∷ []) -- 511,291.88
-    ∷ (pos 2 ∷ pos 3 ∷ []) -- 0.02; 0.03
-    ∷ (pos 32 ∷ pos 444 ∷ []) -- counts 32, 4.44
-    ∷ (pos 17 ∷ pos 83 ∷ []) -- tax 0.17, net 0.83
-    ∷ (pos 34 ∷ pos 33 ∷ pos 33 ∷ []) -- 34, 33, 33
-    ∷ (pos 43 ∷ pos 43 ∷ pos 14 ∷ []) -- 43, 43, 14
-    ∷ (negsuc 42 ∷ negsuc 42 ∷ negsuc 13 ∷ []) -- -43, -43, -14
-    ∷ (pos 0 ∷ pos 1 ∷ pos 0 ∷ pos 2 ∷ pos 0 ∷ pos 1 ∷ pos 0 ∷ pos 1 ∷ pos 0 ∷ pos 2 ∷ []) -- 0, 1, 0, 2, 0, 1, 0, 1, 0, 2
-    ∷ (pos 5 ∷ pos 3 ∷ pos 1 ∷ []) -- 5, 3, 1
+    (negsuc 1 ∷ [])  -- -2
+    ∷ (negsuc 2 ∷ [])  -- -3
+    ∷ (pos 5113 ∷ [])  -- 51.13
+    ∷ (pos 51129 ∷ pos 33538 ∷ [])  -- 335.38 (euro step 51.129)
+    ∷ (pos 51129188 ∷ [])  -- 511,291.88
+    ∷ (pos 2 ∷ pos 3 ∷ [])  -- 0.02; 0.03
+    ∷ (pos 32 ∷ pos 444 ∷ [])  -- counts 32, 4.44
+    ∷ (pos 17 ∷ pos 83 ∷ [])  -- tax 0.17, net 0.83
+    ∷ (pos 34 ∷ pos 33 ∷ pos 33 ∷ [])  -- 34, 33, 33
+    ∷ (pos 43 ∷ pos 43 ∷ pos 14 ∷ [])  -- 43, 43, 14
+    ∷ (negsuc 42 ∷ negsuc 42 ∷ negsuc 13 ∷ [])  -- -43, -43, -14
+    ∷ (pos 0 ∷ pos 1 ∷ pos 0 ∷ pos 2 ∷ pos 0 ∷ pos 1 ∷ pos 0 ∷ pos 1 ∷ pos 0 ∷ pos 2 ∷ [])  -- 0, 1, 0, 2, 0, 1, 0, 1, 0, 2
+    ∷ (pos 5 ∷ pos 3 ∷ pos 1 ∷ [])  -- 5, 3, 1
     ∷ []
