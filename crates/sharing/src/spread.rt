@@ -27,7 +27,7 @@ fn weigh(weights: &[u32]) -> u64
 }
 
 // The first row of the table that holds for these weights and an output of so many places.
-pub fn check(weights: &[u32], room: usize) -> Checked
+pub(crate) fn check(weights: &[u32], room: usize) -> Checked
     ensures { λ r. ⌜ r ≡ checkOf (sharingRows (now (weights .entry)) room) ⌝ }
 {
     if weights.len() < 1 {
@@ -202,7 +202,7 @@ fn spread_many(negative: bool, m: u64, weights: &[u32], out: &mut [i64])
 }
 
 // The shares of m by the weights, with their sign, to the first places of the output; the others stay.
-pub fn spread(negative: bool, m: u64, weights: &[u32], out: &mut [i64])
+pub(crate) fn spread(negative: bool, m: u64, weights: &[u32], out: &mut [i64])
     requires { ⌜ m ≤ magnitudeLimit ⌝ }
     requires { ⌜ Shareable (now weights) (length (now out)) ⌝ }
     ensures { λ r. ⌜ now (out .exit) ≡ map (signedOf negative) (sharesOf m (now (weights .entry))) ++ drop (length (now (weights .entry))) (now (out .entry)) ⌝ }
