@@ -1,15 +1,17 @@
 /* Morskebab from C: money arithmetic whose every function is proved to keep its promise.
  *
- * What the caller owes, since C can't say it: a pointer that goes with a count points to that many elements, which nothing else writes
- * during the call, and two lent lists don't overlap; a struct's fields may hold any values at all. Every call returns; none keeps a pointer.
+ * What the caller owes, since C can't say it: a pointer that goes with a count isn't null and points to that many elements, which nothing
+ * else writes during the call, and two lists lent to one call don't overlap. A struct's fields may hold any values at all, and so may every
+ * number. Every call returns; none keeps a pointer, allocates, or keeps anything between calls, so calls from several threads are free.
  *
- * An answer's `refusal` is 0, or the number of document 01's table; then every other field is 0 but for `blamed`, and for the book that a
- * refused posting or refund hands back as it was. `blamed` is 1 or 2 for the first or the second date with refusal 7, else 0.
+ * Each answer begins with `refusal`, which is 0 or the number of document 01's table, and `blamed`, which is 1 or 2 for the first or the
+ * second date with refusal 7 and else 0. Where a call is refused, every field behind them is 0, except that a refused posting or refund
+ * hands the given book back as it was.
  */
 #ifndef MORSKEBAB_H
 #define MORSKEBAB_H
-#include <stddef.h>
 #include <stdbool.h>
+#include <stddef.h>
 #include <stdint.h>
 
 #ifdef __cplusplus
@@ -19,59 +21,118 @@ extern "C" {
 /* Document 01's table: a number is given exactly when its row holds for something that the call takes or makes and no smaller row does. */
 enum mkb_refusal {
     MKB_ACCEPTED = 0,
-    MKB_MODE = 1,       /* the mode isn't 0 to 6 */
-    MKB_SCALE = 2,      /* a scale is over 6, or (conversions, the book) isn't the known currency's own digits */
-    MKB_MAGNITUDE = 3,  /* a given coefficient or net total is over L, or a plain numerator is over 10^18 */
-    MKB_UNKNOWN = 4,    /* a currency number is over 20 */
-    MKB_DIFFER = 5,     /* two currencies that must agree differ */
-    MKB_RATE = 6,       /* a plain divisor isn't 1 to 10^18, a rate is outside its limits, or the basis isn't 0 to 2 */
-    MKB_DATE = 7,       /* a date doesn't exist or its year isn't 1900 to 2199 */
-    MKB_DAYS = 8,       /* the end is before the start, or the day count is over 366 */
-    MKB_WEIGHTS = 9,    /* weights break their rule */
-    MKB_NEGATIVE = 10,  /* a posting, a refund or a given net total is negative */
-    MKB_ROOM = 11,      /* the lent output is too short */
-    MKB_REFUND = 12,    /* a refund is greater than the net total */
-    MKB_LIMIT = 13      /* the result, the euro step or the new net total is over L */
+    MKB_MODE = 1,      /* the mode isn't 0 to 6 */
+    MKB_SCALE = 2,     /* a scale is over 6, or (conversions, the book) isn't the known currency's own digits */
+    MKB_MAGNITUDE = 3, /* a given coefficient or net total is over L, or a plain numerator is over 10^18 */
+    MKB_UNKNOWN = 4,   /* a currency number is over 20 */
+    MKB_DIFFER = 5,    /* two currencies that must agree differ */
+    MKB_RATE = 6,      /* a plain divisor isn't 1 to 10^18, a rate is outside its limits, or the basis isn't 0 to 2 */
+    MKB_DATE = 7,      /* a date doesn't exist or its year isn't 1900 to 2199 */
+    MKB_DAYS = 8,      /* the end is before the start, or the day count is over 366 */
+    MKB_WEIGHTS = 9,   /* weights break their rule */
+    MKB_NEGATIVE = 10, /* a posting, a refund or a given net total is negative */
+    MKB_ROOM = 11,     /* the lent output is too short */
+    MKB_REFUND = 12,   /* a refund is greater than the net total */
+    MKB_LIMIT = 13     /* the result, the euro step or the new net total is over L */
 };
 
+/* away from zero, toward zero, toward the greater, toward the lesser; to the nearest, a half away from zero, toward zero, to the even */
 enum mkb_mode { MKB_UP, MKB_DOWN, MKB_CEILING, MKB_FLOOR, MKB_HALF_UP, MKB_HALF_DOWN, MKB_HALF_EVEN };
 
-/* its worth is coefficient / 10^scale */
-typedef struct { uint8_t currency, scale; int64_t coefficient; } mkb_amount;
-typedef struct { uint16_t year; uint8_t month, day; } mkb_date;
-typedef struct { uint8_t currency, count; uint32_t weights[16]; int64_t net; } mkb_book;
+/* actual days / 360, actual days / 365, 30/360 */
+enum mkb_basis { MKB_ACTUAL_360, MKB_ACTUAL_365, MKB_30_360 };
 
-typedef struct { uint8_t refusal, blamed; int64_t value; } mkb_whole;
-typedef struct { uint8_t refusal, blamed; mkb_amount amount; } mkb_amount_answer;
-typedef struct { uint8_t refusal, blamed; uint32_t days; } mkb_days;
-typedef struct { uint8_t refusal; int8_t order; } mkb_order_answer;
-typedef struct { uint8_t refusal; mkb_amount net, tax, gross; } mkb_split;
-typedef struct { uint8_t refusal; mkb_book book; } mkb_opened;
-typedef struct { uint8_t refusal; mkb_book book; uint64_t payouts[16]; } mkb_moved;
-typedef struct { uint8_t refusal; uint64_t totals[16]; } mkb_totals;
-typedef struct { uint8_t code[3]; uint64_t figures; uint8_t places, digits; } mkb_line;
+/* the largest magnitude of a coefficient, the places of a book, the largest sum of a book's weights */
+#define MKB_L INT64_C(99999999999)
+#define MKB_PARTNERS 16
+#define MKB_WEIGHT_SUM 10000
+
+/* its worth is coefficient / 10^scale */
+typedef struct {
+    uint8_t currency, scale;
+    int64_t coefficient;
+} mkb_amount;
+
+typedef struct {
+    uint16_t year;
+    uint8_t month, day;
+} mkb_date;
+
+/* a count of 1 to 16, as many weights with a sum of 1 to 10,000 and noughts behind them, and a net total of 0 to L */
+typedef struct {
+    uint8_t currency, count;
+    uint32_t weights[MKB_PARTNERS];
+    int64_t net;
+} mkb_book;
+
+/* the code's letters, without an end; one euro is figures / 10^places units; the currency's own scale */
+typedef struct {
+    uint8_t code[3], places, digits;
+    uint64_t figures;
+} mkb_line;
+
+typedef struct {
+    uint8_t refusal, blamed;
+    int64_t value;
+} mkb_whole;
+
+typedef struct {
+    uint8_t refusal, blamed;
+    mkb_amount amount;
+} mkb_amount_answer;
+
+typedef struct {
+    uint8_t refusal, blamed;
+    int8_t order;
+} mkb_order_answer;
+
+typedef struct {
+    uint8_t refusal, blamed;
+    uint32_t days;
+} mkb_days;
+
+typedef struct {
+    uint8_t refusal, blamed;
+    mkb_amount net, tax, gross;
+} mkb_split;
+
+typedef struct {
+    uint8_t refusal, blamed;
+    mkb_book book;
+} mkb_opened;
+
+typedef struct {
+    uint8_t refusal, blamed;
+    mkb_book book;
+    uint64_t payouts[MKB_PARTNERS];
+} mkb_moved;
+
+typedef struct {
+    uint8_t refusal, blamed;
+    uint64_t totals[MKB_PARTNERS];
+} mkb_totals;
 
 /* n / d rounded by the mode: refusals 1, 3, 6 */
 mkb_whole mkb_round(uint8_t mode, int64_t n, uint64_t d);
 
-/* the table's line: one euro is figures / 10^places units; all 0 for a number over 20 */
+/* the table's line of a currency number; all 0 for a number over 20 */
 mkb_line mkb_currency(uint8_t currency);
 
 /* exact, at the greater of the two scales: refusals 2, 3, 4, 5, 13 */
 mkb_amount_answer mkb_sum(mkb_amount a, mkb_amount b);
-/* by worth, -1, 0 or 1: refusals 2, 3, 4, 5 */
+/* -1, 0 or 1 where a is worth less than b, as much or more: refusals 2, 3, 4, 5 */
 mkb_order_answer mkb_order(mkb_amount a, mkb_amount b);
-/* exact: refusals 2, 3, 4 */
+/* the opposite, exact: refusals 2, 3, 4 */
 mkb_amount_answer mkb_negate(mkb_amount a);
 /* exact to a greater scale, rounded by the mode to a smaller one: refusals 1, 2, 3, 4, 13 */
 mkb_amount_answer mkb_rescale(mkb_amount a, uint8_t scale, uint8_t mode);
 
-/* Council Regulation (EC) No 1103/97, articles 4 and 5: refusals 2, 3, 4, 13 */
+/* the amount in the currency `to`, by Council Regulation (EC) No 1103/97, articles 4 and 5: refusals 2, 3, 4, 13 */
 mkb_amount_answer mkb_convert(mkb_amount a, uint8_t to);
 
-/* Gregorian, 1900 to 2199 */
+/* whether the Gregorian calendar has the date, from 1900 to 2199 */
 bool mkb_date_exists(mkb_date date);
-/* the days that the basis counts: refusals 6, 7, 8 */
+/* the days from the start to the end by the basis: refusals 6, 7, 8 */
 mkb_days mkb_day_count(uint8_t basis, mkb_date start, mkb_date end);
 /* principal x rate x days / (10,000 x year), rounded once at the principal's scale: refusals 1, 2, 3, 4, 6, 7, 8, 13 */
 mkb_amount_answer mkb_interest(mkb_amount principal, uint32_t rate, uint8_t basis, mkb_date start, mkb_date end, uint8_t mode);
@@ -81,16 +142,16 @@ mkb_split mkb_tax_from_net(mkb_amount net, uint32_t rate, uint8_t mode);
 /* tax = gross x rate / (1,000,000 + rate) rounded by the mode, net = gross - tax: refusals 1, 2, 3, 4, 6 */
 mkb_split mkb_tax_from_gross(mkb_amount gross, uint32_t rate, uint8_t mode);
 
-/* shares by largest remainder into the first `count` places of out, the others untouched; a refusal writes nothing: 2, 3, 4, 9, 11 */
+/* shares by largest remainder into the first `count` places of out, the others untouched; a refusal writes nothing; 0, or 2, 3, 4, 9, 11 */
 uint8_t mkb_share(mkb_amount a, const uint32_t *weights, size_t count, int64_t *out, size_t room);
 
-/* a book with N = 0: refusals 4, 9 */
+/* a book with these weights and a net total of 0: refusals 4, 9 */
 mkb_opened mkb_open(uint8_t currency, const uint32_t *weights, size_t count);
 /* the next book and what each partner is paid: refusals 2, 3, 4, 5, 9, 10, 13 */
 mkb_moved mkb_post(mkb_book book, mkb_amount a);
 /* the next book and what is taken back from each partner: refusals 2, 3, 4, 5, 9, 10, 12 */
 mkb_moved mkb_refund(mkb_book book, mkb_amount a);
-/* the running totals at the book's net total: refusals 3, 4, 9, 10 */
+/* each partner's running total at the book's net total: refusals 3, 4, 9, 10 */
 mkb_totals mkb_running_totals(mkb_book book);
 
 #ifdef __cplusplus

@@ -1,0 +1,100 @@
+/* One table: the library's time over plain C's for the same inputs, each row the median of several runs. First the answers are compared on
+ * all inputs: a difference ends the bench with a status that is not 0. The first argument names the machine's kind for the heading. */
+#include "inputs.h"
+#include "rows.h"
+#include <inttypes.h>
+#include <stdio.h>
+#include <stdlib.h>
+#include <time.h>
+
+#define RUNS 15
+
+/* of the processor, so that other programs on the machine count for little */
+static double seconds(void)
+{
+    struct timespec t;
+    clock_gettime(CLOCK_THREAD_CPUTIME_ID, &t);
+    return (double)t.tv_sec + 1e-9 * (double)t.tv_nsec;
+}
+
+/* the time of one pass over the inputs, from so many passes */
+static double timed(void (*pass)(void), unsigned passes)
+{
+    double start = seconds();
+    for (unsigned i = 0; i < passes; i++)
+        pass();
+    return (seconds() - start) / passes;
+}
+
+/* passes enough for some milliseconds */
+static unsigned enough(void (*pass)(void))
+{
+    unsigned passes = 1;
+    while (passes < 1u << 20 && timed(pass, passes) * passes < 0.004)
+        passes *= 2;
+    return passes;
+}
+
+static int rising(const void *a, const void *b)
+{
+    double x = *(const double *)a, y = *(const double *)b;
+    return (x > y) - (x < y);
+}
+
+static double median(double *values)
+{
+    qsort(values, RUNS, sizeof *values, rising);
+    return values[RUNS / 2];
+}
+
+static void row(const char *name, int items, int (*agrees)(void), void (*ours)(void), void (*plain)(void))
+{
+    if (!agrees()) {
+        fprintf(stderr, "bench: the answers differ: %s\n", name);
+        exit(1);
+    }
+    unsigned passes = enough(ours), plain_passes = enough(plain);
+    double a[RUNS], b[RUNS], ratio[RUNS];
+    for (int i = 0; i < RUNS; i++) {
+        a[i] = timed(ours, passes);
+        b[i] = timed(plain, plain_passes);
+        ratio[i] = a[i] / b[i];
+    }
+    printf("%-52s %12.1f %12.1f %9.2f\n", name, 1e9 * median(a) / items, 1e9 * median(b) / items, median(ratio));
+    fflush(stdout);
+}
+
+static void posts(int unit)
+{
+    static const uint32_t sums[] = {10, 100, 1000, 10000};
+    static const int partners[] = {2, 4, 16};
+    for (int i = unit ? 3 : 0; i < 4; i++)
+        for (int j = 0; j < 3; j++)
+            for (int skewed = 0; skewed < 2; skewed++) {
+                char name[80];
+                snprintf(name, sizeof name, "post, W = %" PRIu32 ", %d partners, %s; by %s", sums[i], partners[j],
+                         skewed ? "skewed" : "random", unit ? "unit" : "share");
+                set_book(sums[i], partners[j], skewed, unit);
+                row(name, POSTINGS, post_agrees, post_ours, post_plain);
+            }
+}
+
+int main(int argc, char **argv)
+{
+    draw_inputs();
+    printf("bench: seed %" PRIu64 ", %s, plain C by gcc %s -O3, median of %d runs\n", SEED, argc > 1 ? argv[1] : "x86-64", __VERSION__, RUNS);
+    printf("%-52s %12s %12s %9s\n", "row", "ours, ns", "plain C, ns", "ratio");
+    set_modes(0);
+    row("round HALF_EVEN", PAIRS, round_agrees, round_ours, round_plain);
+    set_modes(1);
+    row("round, mixed modes", PAIRS, round_agrees, round_ours, round_plain);
+    row("convert, old to old", AMOUNTS, convert_agrees, convert_ours, convert_plain);
+    row("interest", AMOUNTS, interest_agrees, interest_ours, interest_plain);
+    set_count(16);
+    row("share 16", LISTS, share_agrees, share_ours, share_plain);
+    set_count(64);
+    row("share 64", LISTS, share_agrees, share_ours, share_plain);
+    posts(0);
+    posts(1);
+    return 0;
+}

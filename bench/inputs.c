@@ -1,0 +1,96 @@
+#include "inputs.h"
+#include <string.h>
+
+pair pairs[PAIRS];
+exchange exchanges[AMOUNTS];
+loan loans[AMOUNTS];
+list lists[LISTS];
+mkb_amount postings[POSTINGS];
+
+static uint64_t state = SEED;
+
+/* a number below n */
+static uint64_t below(uint64_t n)
+{
+    state += UINT64_C(0x9e3779b97f4a7c15);
+    uint64_t z = state;
+    z = (z ^ z >> 30) * UINT64_C(0xbf58476d1ce4e5b9);
+    z = (z ^ z >> 27) * UINT64_C(0x94d049bb133111eb);
+    return (z ^ z >> 31) % n;
+}
+
+static int64_t signed_below(uint64_t n)
+{
+    int64_t m = (int64_t)below(n);
+    return below(2) ? -m : m;
+}
+
+/* one pair in eight is a tie */
+static void draw_pairs(void)
+{
+    for (int i = 0; i < PAIRS; i++) {
+        pair *p = &pairs[i];
+        p->mode = (uint8_t)below(7);
+        p->d = 1 + below(2000000);
+        p->n = signed_below(UINT64_C(1000000000000));
+        if (i % 8 == 0) {
+            p->d = 2 * (1 + below(1000000));
+            p->n = (int64_t)(below(1000000) * p->d + p->d / 2);
+            p->n = below(2) ? -p->n : p->n;
+        }
+    }
+}
+
+static void draw_exchanges(void)
+{
+    for (int i = 0; i < AMOUNTS; i++) {
+        uint8_t from = (uint8_t)(1 + below(20)), to = (uint8_t)(1 + below(19));
+        to += to >= from;
+        exchanges[i].a = (mkb_amount){.currency = from, .scale = mkb_currency(from).digits, .coefficient = signed_below(1000000000)};
+        exchanges[i].to = to;
+    }
+}
+
+static void draw_loans(void)
+{
+    for (int i = 0; i < AMOUNTS; i++) {
+        uint16_t year = (uint16_t)(1900 + below(299));
+        uint8_t month = (uint8_t)(1 + below(12)), later = (uint8_t)(month + below(12));
+        mkb_date start = {year, month, (uint8_t)(1 + below(28))};
+        mkb_date end = {(uint16_t)(later > 12 ? year + 1 : year), (uint8_t)(later > 12 ? later - 12 : later), (uint8_t)(start.day + below(3))};
+        if (!mkb_date_exists(end))
+            end.day = start.day;
+        loans[i] = (loan){.principal = {0, 2, signed_below(PLAIN_L)}, .rate = (uint32_t)below(10001), .basis = (uint8_t)below(3),
+                          .mode = (uint8_t)below(7), .start = start, .end = end};
+    }
+}
+
+void draw_inputs(void)
+{
+    draw_pairs();
+    draw_exchanges();
+    draw_loans();
+    for (int i = 0; i < LISTS; i++) {
+        lists[i].a = (mkb_amount){.currency = 0, .scale = 2, .coefficient = signed_below(PLAIN_L)};
+        for (int j = 0; j < 64; j++)
+            lists[i].weights[j] = 1 + (uint32_t)below(15000);
+    }
+    for (int i = 0; i < POSTINGS; i++)
+        postings[i] = (mkb_amount){.currency = 0, .scale = 2, .coefficient = (int64_t)below(PLAIN_L / POSTINGS)};
+}
+
+void draw_weights(uint32_t weights[16], uint32_t W, int partners, int skewed)
+{
+    memset(weights, 0, 16 * sizeof *weights);
+    uint32_t spread = W;
+    int first = 0, last = partners;
+    if (skewed) {
+        spread = partners > 2 ? W / 10 : 0;
+        weights[0] = 1;
+        weights[partners - 1] = W - 1 - spread;
+        first = 1;
+        last = partners - 1;
+    }
+    for (uint32_t unit = 0; unit < spread; unit++)
+        weights[first + below((uint64_t)(last - first))]++;
+}

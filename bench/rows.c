@@ -1,0 +1,171 @@
+/* One item of each row of the table, by the library and by plain C; and whether the two agree on every input. */
+#include "rows.h"
+#include "inputs.h"
+#include <string.h>
+
+uint64_t sink;
+static uint8_t one_mode;
+static int mixed, by_unit;
+static size_t count;
+static mkb_book opened;
+
+void set_modes(int all) { mixed = all, one_mode = MKB_HALF_EVEN; }
+void set_count(size_t n) { count = n; }
+
+void set_book(uint32_t W, int partners, int skewed, int unit)
+{
+    by_unit = unit;
+    opened = (mkb_book){.currency = 0, .count = (uint8_t)partners, .net = 0};
+    draw_weights(opened.weights, W, partners, skewed);
+}
+
+static uint8_t mode_of(const pair *p) { return mixed ? p->mode : one_mode; }
+
+static plain_date plain_of(mkb_date d) { return (plain_date){d.year, d.month, d.day}; }
+
+void round_ours(void)
+{
+    for (int i = 0; i < PAIRS; i++)
+        sink += (uint64_t)mkb_round(mode_of(&pairs[i]), pairs[i].n, pairs[i].d).value;
+}
+
+void round_plain(void)
+{
+    int refusal;
+    for (int i = 0; i < PAIRS; i++)
+        sink += (uint64_t)plain_round(mode_of(&pairs[i]), pairs[i].n, pairs[i].d, &refusal);
+}
+
+int round_agrees(void)
+{
+    int ok = 1, refusal;
+    for (int i = 0; i < PAIRS; i++) {
+        mkb_whole r = mkb_round(mode_of(&pairs[i]), pairs[i].n, pairs[i].d);
+        ok &= r.value == plain_round(mode_of(&pairs[i]), pairs[i].n, pairs[i].d, &refusal) && r.refusal == refusal;
+    }
+    return ok;
+}
+
+void convert_ours(void)
+{
+    for (int i = 0; i < AMOUNTS; i++)
+        sink += (uint64_t)mkb_convert(exchanges[i].a, exchanges[i].to).amount.coefficient;
+}
+
+void convert_plain(void)
+{
+    int refusal;
+    for (int i = 0; i < AMOUNTS; i++) {
+        const mkb_amount *a = &exchanges[i].a;
+        sink += (uint64_t)plain_convert(a->currency, a->scale, a->coefficient, exchanges[i].to, &refusal);
+    }
+}
+
+int convert_agrees(void)
+{
+    int ok = 1, refusal;
+    for (int i = 0; i < AMOUNTS; i++) {
+        const mkb_amount *a = &exchanges[i].a;
+        mkb_amount_answer r = mkb_convert(*a, exchanges[i].to);
+        ok &= r.amount.coefficient == plain_convert(a->currency, a->scale, a->coefficient, exchanges[i].to, &refusal) && r.refusal == refusal;
+    }
+    return ok;
+}
+
+void interest_ours(void)
+{
+    for (int i = 0; i < AMOUNTS; i++) {
+        const loan *l = &loans[i];
+        sink += (uint64_t)mkb_interest(l->principal, l->rate, l->basis, l->start, l->end, l->mode).amount.coefficient;
+    }
+}
+
+static int64_t interest_by_plain(const loan *l, int *refusal)
+{
+    return plain_interest(l->principal.coefficient, l->rate, l->basis, plain_of(l->start), plain_of(l->end), l->mode, refusal);
+}
+
+void interest_plain(void)
+{
+    int refusal;
+    for (int i = 0; i < AMOUNTS; i++)
+        sink += (uint64_t)interest_by_plain(&loans[i], &refusal);
+}
+
+int interest_agrees(void)
+{
+    int ok = 1, refusal;
+    for (int i = 0; i < AMOUNTS; i++) {
+        const loan *l = &loans[i];
+        int64_t n = interest_by_plain(l, &refusal);
+        mkb_amount_answer r = mkb_interest(l->principal, l->rate, l->basis, l->start, l->end, l->mode);
+        ok &= r.refusal == refusal && r.amount.coefficient == (refusal ? 0 : n);
+    }
+    return ok;
+}
+
+void share_ours(void)
+{
+    int64_t out[64];
+    for (int i = 0; i < LISTS; i++)
+        sink += mkb_share(lists[i].a, lists[i].weights, count, out, 64) + (uint64_t)out[0];
+}
+
+void share_plain(void)
+{
+    int64_t out[64];
+    for (int i = 0; i < LISTS; i++)
+        sink += (uint64_t)plain_share(lists[i].a.coefficient, lists[i].weights, count, out, 64) + (uint64_t)out[0];
+}
+
+int share_agrees(void)
+{
+    int ok = 1;
+    for (int i = 0; i < LISTS; i++) {
+        int64_t ours[64] = {0}, plain[64] = {0};
+        ok &= mkb_share(lists[i].a, lists[i].weights, count, ours, 64) == plain_share(lists[i].a.coefficient, lists[i].weights, count, plain, 64);
+        ok &= !memcmp(ours, plain, sizeof ours);
+    }
+    return ok;
+}
+
+static plain_book plain_opened(void)
+{
+    plain_book b = {.currency = opened.currency, .count = opened.count, .net = opened.net};
+    memcpy(b.weights, opened.weights, sizeof b.weights);
+    return b;
+}
+
+void post_ours(void)
+{
+    mkb_book b = opened;
+    for (int i = 0; i < POSTINGS; i++) {
+        mkb_moved r = mkb_post(b, postings[i]);
+        sink += r.payouts[0];
+        b = r.book;
+    }
+}
+
+void post_plain(void)
+{
+    plain_book b = plain_opened();
+    uint64_t payouts[16];
+    for (int i = 0; i < POSTINGS; i++) {
+        sink += (uint64_t)plain_post(&b, postings[i].coefficient, payouts, by_unit) + payouts[0];
+    }
+}
+
+int post_agrees(void)
+{
+    int ok = 1;
+    mkb_book b = opened;
+    plain_book p = plain_opened();
+    uint64_t payouts[16];
+    for (int i = 0; i < POSTINGS; i++) {
+        mkb_moved r = mkb_post(b, postings[i]);
+        ok &= plain_post(&p, postings[i].coefficient, payouts, by_unit) == r.refusal && !r.refusal;
+        ok &= !memcmp(payouts, r.payouts, sizeof payouts) && p.net == r.book.net;
+        b = r.book;
+    }
+    return ok;
+}

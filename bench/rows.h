@@ -1,0 +1,20 @@
+/* What the rows of the table run: all inputs once, by the library and by plain C; `..agrees` compares the answers on all of them. */
+#ifndef ROWS_H
+#define ROWS_H
+#include <stddef.h>
+#include <stdint.h>
+
+/* what the answers add up to, so that no call can be left out */
+extern uint64_t sink;
+
+/* HALF_EVEN alone, or each pair's own mode */
+void set_modes(int all);
+/* how many weights a sharing takes */
+void set_count(size_t n);
+/* the book that the postings start from, and the plain form */
+void set_book(uint32_t W, int partners, int skewed, int unit);
+
+void round_ours(void), round_plain(void), convert_ours(void), convert_plain(void), interest_ours(void), interest_plain(void);
+void share_ours(void), share_plain(void), post_ours(void), post_plain(void);
+int round_agrees(void), convert_agrees(void), interest_agrees(void), share_agrees(void), post_agrees(void);
+#endif

@@ -1,0 +1,19 @@
+/* The header's structs have the layout that the library was compiled with; a compiler that lays them out otherwise refuses this file.
+ * A #[repr(C)] struct has each field at the next place that suits its size. */
+#include "morskebab.h"
+
+#define SIZE(type, bytes) _Static_assert(sizeof(type) == (bytes), #type)
+#define AT(type, field, place) _Static_assert(offsetof(type, field) == (place), #type "." #field)
+
+SIZE(mkb_amount, 16); AT(mkb_amount, currency, 0); AT(mkb_amount, scale, 1); AT(mkb_amount, coefficient, 8);
+SIZE(mkb_date, 4); AT(mkb_date, year, 0); AT(mkb_date, month, 2); AT(mkb_date, day, 3);
+SIZE(mkb_book, 80); AT(mkb_book, currency, 0); AT(mkb_book, count, 1); AT(mkb_book, weights, 4); AT(mkb_book, net, 72);
+SIZE(mkb_line, 16); AT(mkb_line, code, 0); AT(mkb_line, places, 3); AT(mkb_line, digits, 4); AT(mkb_line, figures, 8);
+SIZE(mkb_whole, 16); AT(mkb_whole, refusal, 0); AT(mkb_whole, blamed, 1); AT(mkb_whole, value, 8);
+SIZE(mkb_amount_answer, 24); AT(mkb_amount_answer, blamed, 1); AT(mkb_amount_answer, amount, 8);
+SIZE(mkb_order_answer, 3); AT(mkb_order_answer, blamed, 1); AT(mkb_order_answer, order, 2);
+SIZE(mkb_days, 8); AT(mkb_days, blamed, 1); AT(mkb_days, days, 4);
+SIZE(mkb_split, 56); AT(mkb_split, blamed, 1); AT(mkb_split, net, 8); AT(mkb_split, tax, 24); AT(mkb_split, gross, 40);
+SIZE(mkb_opened, 88); AT(mkb_opened, blamed, 1); AT(mkb_opened, book, 8);
+SIZE(mkb_moved, 216); AT(mkb_moved, blamed, 1); AT(mkb_moved, book, 8); AT(mkb_moved, payouts, 88);
+SIZE(mkb_totals, 136); AT(mkb_totals, blamed, 1); AT(mkb_totals, totals, 8);

@@ -1,0 +1,70 @@
+"""The structs and functions of morskebab.h for ctypes, and the library that holds them."""
+import ctypes
+import os
+import pathlib
+from ctypes import POINTER, Structure, c_bool, c_int8, c_int64, c_size_t, c_uint8, c_uint16, c_uint32, c_uint64
+
+PARTNERS = 16
+
+
+class CAmount(Structure):
+    _fields_ = [("currency", c_uint8), ("scale", c_uint8), ("coefficient", c_int64)]
+
+
+class CDate(Structure):
+    _fields_ = [("year", c_uint16), ("month", c_uint8), ("day", c_uint8)]
+
+
+class CBook(Structure):
+    _fields_ = [("currency", c_uint8), ("count", c_uint8), ("weights", c_uint32 * PARTNERS), ("net", c_int64)]
+
+
+class CLine(Structure):
+    _fields_ = [("code", c_uint8 * 3), ("places", c_uint8), ("digits", c_uint8), ("figures", c_uint64)]
+
+
+def _answer(name, *fields):
+    """An answer: the refusal, the date blamed, and the values."""
+    return type(name, (Structure,), {"_fields_": [("refusal", c_uint8), ("blamed", c_uint8), *fields]})
+
+
+CWhole = _answer("CWhole", ("value", c_int64))
+CAmountAnswer = _answer("CAmountAnswer", ("amount", CAmount))
+COrder = _answer("COrder", ("order", c_int8))
+CDays = _answer("CDays", ("days", c_uint32))
+CSplit = _answer("CSplit", ("net", CAmount), ("tax", CAmount), ("gross", CAmount))
+COpened = _answer("COpened", ("book", CBook))
+CMoved = _answer("CMoved", ("book", CBook), ("payouts", c_uint64 * PARTNERS))
+CTotals = _answer("CTotals", ("totals", c_uint64 * PARTNERS))
+
+# each function's answer and parameters, as in morskebab.h
+FUNCTIONS = {
+    "mkb_round": (CWhole, c_uint8, c_int64, c_uint64),
+    "mkb_currency": (CLine, c_uint8),
+    "mkb_sum": (CAmountAnswer, CAmount, CAmount),
+    "mkb_order": (COrder, CAmount, CAmount),
+    "mkb_negate": (CAmountAnswer, CAmount),
+    "mkb_rescale": (CAmountAnswer, CAmount, c_uint8, c_uint8),
+    "mkb_convert": (CAmountAnswer, CAmount, c_uint8),
+    "mkb_date_exists": (c_bool, CDate),
+    "mkb_day_count": (CDays, c_uint8, CDate, CDate),
+    "mkb_interest": (CAmountAnswer, CAmount, c_uint32, c_uint8, CDate, CDate, c_uint8),
+    "mkb_tax_from_net": (CSplit, CAmount, c_uint32, c_uint8),
+    "mkb_tax_from_gross": (CSplit, CAmount, c_uint32, c_uint8),
+    "mkb_share": (c_uint8, CAmount, POINTER(c_uint32), c_size_t, POINTER(c_int64), c_size_t),
+    "mkb_open": (COpened, c_uint8, POINTER(c_uint32), c_size_t),
+    "mkb_post": (CMoved, CBook, CAmount),
+    "mkb_refund": (CMoved, CBook, CAmount),
+    "mkb_running_totals": (CTotals, CBook),
+}
+
+
+def load():
+    """The library of MORSKEBAB_LIBRARY, or the one that `check` builds in the repository's target folder."""
+    built = pathlib.Path(__file__).resolve().parents[2] / "target" / "bindings" / "libmorskebab.so"
+    library = ctypes.CDLL(os.environ.get("MORSKEBAB_LIBRARY", str(built)))
+    for name, (answer, *parameters) in FUNCTIONS.items():
+        function = getattr(library, name)
+        function.restype = answer
+        function.argtypes = parameters
+    return library

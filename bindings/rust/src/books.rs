@@ -1,0 +1,62 @@
+//! The share book.
+use crate::{ffi, Amount, Currency, Refusal};
+
+/// A currency, a count of 1 to 16, as many weights with a sum of 1 to 10,000 and noughts behind them, and a net total of 0 to L.
+/// Any values may stand in it: every call checks them all, and answers with the next book.
+#[derive(Clone, Copy, Debug, PartialEq, Eq)]
+pub struct Book {
+    pub currency: Currency,
+    pub count: u8,
+    pub weights: [u32; 16],
+    pub net: i64,
+}
+
+/// The next book, and what each partner is paid, or what a refund takes back from each.
+#[derive(Clone, Copy, Debug, PartialEq, Eq)]
+pub struct Moved {
+    pub book: Book,
+    pub payouts: [u64; 16],
+}
+
+impl From<Book> for ffi::Book {
+    fn from(b: Book) -> Self {
+        ffi::Book { currency: b.currency.0, count: b.count, weights: b.weights, net: b.net }
+    }
+}
+
+impl From<ffi::Book> for Book {
+    fn from(b: ffi::Book) -> Self {
+        Book { currency: Currency(b.currency), count: b.count, weights: b.weights, net: b.net }
+    }
+}
+
+impl From<ffi::Moved> for Result<Moved, Refusal> {
+    fn from(r: ffi::Moved) -> Self {
+        Refusal::or(r.refusal, r.blamed, Moved { book: r.book.into(), payouts: r.payouts })
+    }
+}
+
+// SAFETY of the calls below: the structs have the layout of morskebab.h, any values may stand in them, and a slice is lent whole
+impl Book {
+    /// A book with these weights and a net total of 0: refusals 4, 9.
+    pub fn open(currency: Currency, weights: &[u32]) -> Result<Book, Refusal> {
+        let r = unsafe { ffi::mkb_open(currency.0, weights.as_ptr(), weights.len()) };
+        Refusal::or(r.refusal, r.blamed, r.book.into())
+    }
+
+    /// Pays each partner the difference of its running totals at N + A and N: refusals 2, 3, 4, 5, 9, 10, 13. Refused, the book is as it was.
+    pub fn post(self, amount: Amount) -> Result<Moved, Refusal> {
+        unsafe { ffi::mkb_post(self.into(), amount.into()) }.into()
+    }
+
+    /// Takes back the difference of the running totals at N and N - A: refusals 2, 3, 4, 5, 9, 10, 12. Refused, the book is as it was.
+    pub fn refund(self, amount: Amount) -> Result<Moved, Refusal> {
+        unsafe { ffi::mkb_refund(self.into(), amount.into()) }.into()
+    }
+
+    /// Each partner's running total at the net total: refusals 3, 4, 9, 10.
+    pub fn running_totals(self) -> Result<[u64; 16], Refusal> {
+        let r = unsafe { ffi::mkb_running_totals(self.into()) };
+        Refusal::or(r.refusal, r.blamed, r.totals)
+    }
+}

@@ -1,0 +1,198 @@
+//! Morskebab for Rust: money arithmetic whose every function is proved to keep its promise.
+//!
+//! An accepted call gives its value, a refused one the [`Refusal`] of document 01's table. No call panics, and none of the interface is
+//! `unsafe`: every value of every argument is answered.
+//!
+//! ```
+//! use morskebab::{Amount, Book, Currency};
+//! let euros = |cents| Amount::new(Currency(0), 2, cents);
+//! assert_eq!(Amount::new(Currency(2), 2, 10_000).convert(Currency(0)), Ok(euros(5_113)));
+//! let book = Book::open(Currency(0), &[5, 3, 2])?;
+//! assert_eq!(book.post(euros(7))?.payouts[..3], [4, 2, 1]);
+//! # Ok::<(), morskebab::Refusal>(())
+//! ```
+#![deny(unsafe_op_in_unsafe_fn)]
+mod books;
+mod ffi;
+mod refusal;
+
+pub use books::{Book, Moved};
+pub use refusal::{Blamed, Refusal};
+use std::cmp::Ordering;
+
+/// The mode numbers.
+pub mod mode {
+    pub const UP: u8 = 0;
+    pub const DOWN: u8 = 1;
+    pub const CEILING: u8 = 2;
+    pub const FLOOR: u8 = 3;
+    pub const HALF_UP: u8 = 4;
+    pub const HALF_DOWN: u8 = 5;
+    pub const HALF_EVEN: u8 = 6;
+}
+
+/// The day count bases.
+pub mod basis {
+    pub const ACTUAL_360: u8 = 0;
+    pub const ACTUAL_365: u8 = 1;
+    pub const THIRTY_360: u8 = 2;
+}
+
+/// n / d rounded by the mode: refusals 1, 3, 6.
+pub fn plain_quotient(mode: u8, n: i64, d: u64) -> Result<i64, Refusal> {
+    // SAFETY: numbers alone cross
+    let r = unsafe { ffi::mkb_round(mode, n, d) };
+    Refusal::or(r.refusal, r.blamed, r.value)
+}
+
+/// A currency number.
+#[derive(Clone, Copy, Debug, PartialEq, Eq)]
+pub struct Currency(pub u8);
+
+/// A line of the table of currencies: one euro is figures / 10^places units; `digits` is the currency's own scale.
+#[derive(Clone, Copy, Debug, PartialEq, Eq)]
+pub struct Line {
+    pub code: [u8; 3],
+    pub figures: u64,
+    pub places: u8,
+    pub digits: u8,
+}
+
+impl Currency {
+    /// The table's line; all 0 for a number over 20.
+    pub fn line(self) -> Line {
+        // SAFETY: a number alone crosses
+        let l = unsafe { ffi::mkb_currency(self.0) };
+        Line { code: l.code, figures: l.figures, places: l.places, digits: l.digits }
+    }
+}
+
+/// Its worth is coefficient / 10^scale. `==` goes by the fields, [`Amount::order`] by worth.
+#[derive(Clone, Copy, Debug, PartialEq, Eq)]
+pub struct Amount {
+    pub currency: Currency,
+    pub scale: u8,
+    pub coefficient: i64,
+}
+
+impl From<Amount> for ffi::Amount {
+    fn from(a: Amount) -> Self {
+        ffi::Amount { currency: a.currency.0, scale: a.scale, coefficient: a.coefficient }
+    }
+}
+
+impl From<ffi::Amount> for Amount {
+    fn from(a: ffi::Amount) -> Self {
+        Amount::new(Currency(a.currency), a.scale, a.coefficient)
+    }
+}
+
+impl From<ffi::AmountAnswer> for Result<Amount, Refusal> {
+    fn from(r: ffi::AmountAnswer) -> Self {
+        Refusal::or(r.refusal, r.blamed, r.amount.into())
+    }
+}
+
+/// A price taken apart.
+#[derive(Clone, Copy, Debug, PartialEq, Eq)]
+pub struct Split {
+    pub net: Amount,
+    pub tax: Amount,
+    pub gross: Amount,
+}
+
+impl From<ffi::Split> for Result<Split, Refusal> {
+    fn from(r: ffi::Split) -> Self {
+        Refusal::or(r.refusal, r.blamed, Split { net: r.net.into(), tax: r.tax.into(), gross: r.gross.into() })
+    }
+}
+
+// SAFETY of the calls below: the structs have the layout of morskebab.h, any values may stand in them, and a slice is lent whole
+impl Amount {
+    /// The largest magnitude of a coefficient.
+    pub const L: i64 = 99_999_999_999;
+
+    pub const fn new(currency: Currency, scale: u8, coefficient: i64) -> Self {
+        Amount { currency, scale, coefficient }
+    }
+
+    /// Exact, at the greater of the two scales: refusals 2, 3, 4, 5, 13.
+    pub fn sum(self, other: Amount) -> Result<Amount, Refusal> {
+        unsafe { ffi::mkb_sum(self.into(), other.into()) }.into()
+    }
+
+    /// By worth: refusals 2, 3, 4, 5.
+    pub fn order(self, other: Amount) -> Result<Ordering, Refusal> {
+        let r = unsafe { ffi::mkb_order(self.into(), other.into()) };
+        Refusal::or(r.refusal, r.blamed, r.order.cmp(&0))
+    }
+
+    /// Exact: refusals 2, 3, 4.
+    pub fn negate(self) -> Result<Amount, Refusal> {
+        unsafe { ffi::mkb_negate(self.into()) }.into()
+    }
+
+    /// Exact to a greater scale, rounded by the mode to a smaller one: refusals 1, 2, 3, 4, 13.
+    pub fn rescale(self, scale: u8, mode: u8) -> Result<Amount, Refusal> {
+        unsafe { ffi::mkb_rescale(self.into(), scale, mode) }.into()
+    }
+
+    /// In the currency `to`, by Council Regulation (EC) No 1103/97, articles 4 and 5: refusals 2, 3, 4, 13.
+    pub fn convert(self, to: Currency) -> Result<Amount, Refusal> {
+        unsafe { ffi::mkb_convert(self.into(), to.0) }.into()
+    }
+
+    /// This x rate x days / (10,000 x year), rounded once: refusals 1, 2, 3, 4, 6, 7, 8, 13.
+    pub fn interest(self, rate: u32, basis: u8, start: Date, end: Date, mode: u8) -> Result<Amount, Refusal> {
+        unsafe { ffi::mkb_interest(self.into(), rate, basis, start.into(), end.into(), mode) }.into()
+    }
+
+    /// Tax = net x rate / 1,000,000 rounded by the mode, gross = net + tax: refusals 1, 2, 3, 4, 6, 13.
+    pub fn tax_as_net(self, rate: u32, mode: u8) -> Result<Split, Refusal> {
+        unsafe { ffi::mkb_tax_from_net(self.into(), rate, mode) }.into()
+    }
+
+    /// Tax = gross x rate / (1,000,000 + rate) rounded by the mode, net = gross - tax: refusals 1, 2, 3, 4, 6.
+    pub fn tax_as_gross(self, rate: u32, mode: u8) -> Result<Split, Refusal> {
+        unsafe { ffi::mkb_tax_from_gross(self.into(), rate, mode) }.into()
+    }
+
+    /// The shares by largest remainder into the first places of `out`, as many as weights; the others, and every place where the call is
+    /// refused, stay as they stood: refusals 2, 3, 4, 9, 11.
+    pub fn share(self, weights: &[u32], out: &mut [i64]) -> Result<(), Refusal> {
+        let number = unsafe { ffi::mkb_share(self.into(), weights.as_ptr(), weights.len(), out.as_mut_ptr(), out.len()) };
+        Refusal::or(number, 0, ())
+    }
+}
+
+/// A date; [`Date::exists`] says whether there is one.
+#[derive(Clone, Copy, Debug, PartialEq, Eq)]
+pub struct Date {
+    pub year: u16,
+    pub month: u8,
+    pub day: u8,
+}
+
+impl From<Date> for ffi::Date {
+    fn from(d: Date) -> Self {
+        ffi::Date { year: d.year, month: d.month, day: d.day }
+    }
+}
+
+impl Date {
+    pub const fn new(year: u16, month: u8, day: u8) -> Self {
+        Date { year, month, day }
+    }
+
+    /// Whether the Gregorian calendar has the date, from 1900 to 2199.
+    pub fn exists(self) -> bool {
+        unsafe { ffi::mkb_date_exists(self.into()) }
+    }
+}
+
+/// The days from the start to the end by the basis: refusals 6, 7, 8.
+pub fn day_count(basis: u8, start: Date, end: Date) -> Result<u32, Refusal> {
+    // SAFETY: as above
+    let r = unsafe { ffi::mkb_day_count(basis, start.into(), end.into()) };
+    Refusal::or(r.refusal, r.blamed, r.days)
+}

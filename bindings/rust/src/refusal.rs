@@ -1,0 +1,91 @@
+//! The refusals of document 01's table.
+use std::fmt;
+
+/// Which of a call's two dates a refusal blames.
+#[derive(Clone, Copy, Debug, PartialEq, Eq)]
+pub enum Blamed {
+    First,
+    Second,
+}
+
+/// Why a call was refused: a number is given exactly when its row holds for something that the call takes or makes and no smaller row does.
+#[derive(Clone, Copy, Debug, PartialEq, Eq)]
+pub enum Refusal {
+    /// 1: the mode isn't 0 to 6
+    Mode,
+    /// 2: a scale is over 6, or (conversions, the book) isn't the known currency's own digits
+    Scale,
+    /// 3: a given coefficient or net total is over L, or a plain numerator is over 10^18
+    Magnitude,
+    /// 4: a currency number is over 20
+    Unknown,
+    /// 5: two currencies that must agree differ
+    Differ,
+    /// 6: a plain divisor isn't 1 to 10^18, a rate is outside its limits, or the basis isn't 0 to 2
+    Rate,
+    /// 7: a date doesn't exist or its year isn't 1900 to 2199
+    Date(Blamed),
+    /// 8: the end is before the start, or the day count is over 366
+    Days,
+    /// 9: weights break their rule
+    Weights,
+    /// 10: a posting, a refund or a given net total is negative
+    Negative,
+    /// 11: the lent output is too short
+    Room,
+    /// 12: a refund is greater than the net total
+    Refund,
+    /// 13: the result, the euro step or the new net total is over L
+    Limit,
+}
+
+impl Refusal {
+    /// Document 01's number.
+    pub fn number(self) -> u8 {
+        match self {
+            Refusal::Mode => 1,
+            Refusal::Scale => 2,
+            Refusal::Magnitude => 3,
+            Refusal::Unknown => 4,
+            Refusal::Differ => 5,
+            Refusal::Rate => 6,
+            Refusal::Date(_) => 7,
+            Refusal::Days => 8,
+            Refusal::Weights => 9,
+            Refusal::Negative => 10,
+            Refusal::Room => 11,
+            Refusal::Refund => 12,
+            Refusal::Limit => 13,
+        }
+    }
+
+    /// The value where the number is 0, else the refusal of the number.
+    pub(crate) fn or<T>(number: u8, blamed: u8, value: T) -> Result<T, Refusal> {
+        Err(match number {
+            0 => return Ok(value),
+            1 => Refusal::Mode,
+            2 => Refusal::Scale,
+            3 => Refusal::Magnitude,
+            4 => Refusal::Unknown,
+            5 => Refusal::Differ,
+            6 => Refusal::Rate,
+            7 if blamed == 1 => Refusal::Date(Blamed::First),
+            7 => Refusal::Date(Blamed::Second),
+            8 => Refusal::Days,
+            9 => Refusal::Weights,
+            10 => Refusal::Negative,
+            11 => Refusal::Room,
+            12 => Refusal::Refund,
+            13 => Refusal::Limit,
+            other => panic!("the archive answered with {other}, which the table doesn't have"),
+        })
+    }
+}
+
+impl fmt::Display for Refusal {
+    fn fmt(&self, f: &mut fmt::Formatter<'_>) -> fmt::Result {
+        write!(f, "refusal {}: {self:?}", self.number())
+    }
+}
+
+impl std::error::Error for Refusal {}

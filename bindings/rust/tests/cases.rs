@@ -1,0 +1,136 @@
+//! Document 01's cases ("Two sides of each line") through the Rust crate.
+use morskebab::{day_count, mode, plain_quotient, Amount, Blamed, Book, Currency, Date, Moved, Refusal, Split};
+use std::cmp::Ordering;
+
+const EUR: Currency = Currency(0);
+const DEM: Currency = Currency(2);
+const FRF: Currency = Currency(4);
+const IEP: Currency = Currency(5);
+const ITL: Currency = Currency(6);
+
+fn euros(cents: i64) -> Amount {
+    Amount::new(EUR, 2, cents)
+}
+
+#[test]
+fn seven_modes() {
+    let tenths = [55, 25, 16, 11, 10, -10, -11, -16, -25, -55];
+    let table = [
+        [6, 3, 2, 2, 1, -1, -2, -2, -3, -6],
+        [5, 2, 1, 1, 1, -1, -1, -1, -2, -5],
+        [6, 3, 2, 2, 1, -1, -1, -1, -2, -5],
+        [5, 2, 1, 1, 1, -1, -2, -2, -3, -6],
+        [6, 3, 2, 1, 1, -1, -1, -2, -3, -6],
+        [5, 2, 2, 1, 1, -1, -1, -2, -2, -5],
+        [6, 2, 2, 1, 1, -1, -1, -2, -2, -6],
+    ];
+    for (number, row) in table.iter().enumerate() {
+        for (n, rounded) in tenths.iter().zip(row) {
+            assert_eq!(plain_quotient(number as u8, *n, 10), Ok(*rounded));
+        }
+    }
+    assert_eq!(plain_quotient(mode::HALF_EVEN, -5, 2), Ok(-2));
+    assert_eq!(plain_quotient(mode::FLOOR, -5, 2), Ok(-3));
+    assert_eq!(plain_quotient(mode::FLOOR, -5, 0), Err(Refusal::Rate));
+    assert_eq!(plain_quotient(mode::UP, i64::MIN, 0), Err(Refusal::Magnitude));
+    assert_eq!(plain_quotient(7, i64::MIN, 0), Err(Refusal::Mode));
+}
+
+#[test]
+fn amounts() {
+    let tenths = |n| Amount::new(EUR, 1, n);
+    assert_eq!(tenths(15).order(euros(150)), Ok(Ordering::Equal));
+    assert_eq!(tenths(-15).order(euros(-149)), Ok(Ordering::Less));
+    assert_eq!(tenths(20).order(euros(150)), Ok(Ordering::Greater));
+    assert_eq!(tenths(15).order(Amount::new(DEM, 1, 15)), Err(Refusal::Differ));
+    assert_eq!(tenths(15).sum(euros(25)), Ok(euros(175)));
+    assert_eq!(euros(Amount::L).sum(euros(1)), Err(Refusal::Limit));
+    assert_eq!(euros(Amount::L).negate(), Ok(euros(-Amount::L)));
+    assert_eq!(euros(Amount::L + 1).negate(), Err(Refusal::Magnitude));
+    assert_eq!(Amount::new(EUR, 7, 1).negate(), Err(Refusal::Scale));
+    assert_eq!(Amount::new(Currency(21), 2, 1).negate(), Err(Refusal::Unknown));
+    assert_eq!(euros(125).rescale(1, mode::HALF_EVEN), Ok(tenths(12)));
+    assert_eq!(Amount::new(Currency(21), 2, 1).rescale(1, 7), Err(Refusal::Mode));
+    assert_eq!((DEM.line().code, DEM.line().figures, DEM.line().places, DEM.line().digits), (*b"DEM", 195_583, 5, 2));
+    assert_eq!(Currency(21).line().figures, 0);
+}
+
+#[test]
+fn euro_steps() {
+    assert_eq!(Amount::new(DEM, 2, 10_000).convert(EUR), Ok(euros(5_113)));
+    assert_eq!(Amount::new(DEM, 2, 10_000).convert(FRF), Ok(Amount::new(FRF, 2, 33_538)));
+    assert_eq!(Amount::new(DEM, 2, 100_000_000).convert(EUR), Ok(euros(51_129_188)));
+    assert_eq!(Amount::new(ITL, 0, 1_000_000).convert(EUR), Ok(euros(51_646)));
+    assert_eq!(euros(2).convert(IEP), Ok(Amount::new(IEP, 2, 2)));
+    assert_eq!(Amount::new(IEP, 2, 2).convert(EUR), Ok(euros(3)));
+    assert_eq!(Amount::new(IEP, 2, Amount::L).convert(DEM), Err(Refusal::Limit));
+}
+
+#[test]
+fn interest_over_days() {
+    let (feb, mar, none) = (Date::new(2023, 2, 28), Date::new(2023, 3, 31), Date::new(1900, 2, 29));
+    for (basis, days, cents) in [(0, 31, 431), (1, 31, 425), (2, 32, 444)] {
+        assert_eq!(day_count(basis, feb, mar), Ok(days));
+        assert_eq!(euros(100_000).interest(500, basis, feb, mar, mode::HALF_UP), Ok(euros(cents)));
+    }
+    assert!(Date::new(2000, 2, 29).exists() && !none.exists());
+    assert_eq!(day_count(0, none, none), Err(Refusal::Date(Blamed::First)));
+    assert_eq!(euros(1).interest(500, 0, feb, none, mode::UP), Err(Refusal::Date(Blamed::Second)));
+    assert_eq!(day_count(0, mar, feb), Err(Refusal::Days));
+    assert_eq!(day_count(3, none, none), Err(Refusal::Rate));
+}
+
+#[test]
+fn prices() {
+    let split = |net, tax, gross| Split { net: euros(net), tax: euros(tax), gross: euros(gross) };
+    assert_eq!(euros(100).tax_as_gross(200_000, mode::HALF_UP), Ok(split(83, 17, 100)));
+    assert_eq!(euros(3).tax_as_gross(200_000, mode::HALF_UP), Ok(split(2, 1, 3)));
+    assert_eq!(euros(2).tax_as_net(200_000, mode::HALF_UP), Ok(split(2, 0, 2)));
+    assert_eq!(euros(2).tax_as_net(1_000_001, mode::HALF_UP), Err(Refusal::Rate));
+}
+
+#[test]
+fn shares() {
+    let shared = |n, weights: &[u32], room| {
+        let mut out = [777; 8];
+        euros(n).share(weights, &mut out[..room]).map(|()| out)
+    };
+    assert_eq!(shared(100, &[1, 1, 1], 8), Ok([34, 33, 33, 777, 777, 777, 777, 777]));
+    assert_eq!(shared(100, &[3, 3, 1], 3).map(|out| [out[0], out[1], out[2]]), Ok([43, 43, 14]));
+    assert_eq!(shared(10, &[0, 1, 1, 1], 4).map(|out| [out[0], out[1], out[2], out[3]]), Ok([0, 4, 3, 3]));
+    assert_eq!(shared(-100, &[3, 3, 1], 3).map(|out| [out[0], out[1], out[2]]), Ok([-43, -43, -14]));
+    assert_eq!(shared(100, &[1, 1, 1], 2), Err(Refusal::Room));
+    assert_eq!(shared(100, &[], 8), Err(Refusal::Weights));
+    let mut untouched = [777; 2];
+    assert_eq!(euros(100).share(&[1, 1, 1], &mut untouched), Err(Refusal::Room));
+    assert_eq!(untouched, [777; 2]);
+}
+
+fn at(net: i64) -> Book {
+    Book { net, ..Book::open(EUR, &[5, 3, 2]).expect("the weights keep their rule") }
+}
+
+fn moved(net: i64, three: [u64; 3]) -> Result<Moved, Refusal> {
+    let mut payouts = [0; 16];
+    payouts[..3].copy_from_slice(&three);
+    Ok(Moved { book: at(net), payouts })
+}
+
+#[test]
+fn share_book() {
+    for (t, taker) in [0, 1, 0, 2, 0, 1, 0, 1, 0, 2].into_iter().enumerate() {
+        let mut one = [0; 3];
+        one[taker] = 1;
+        assert_eq!(at(t as i64).post(euros(1)), moved(t as i64 + 1, one));
+    }
+    assert_eq!(at(0).post(euros(7)), moved(7, [4, 2, 1]));
+    assert_eq!(at(7).post(euros(5)), moved(12, [2, 2, 1]));
+    assert_eq!(at(12).refund(euros(3)), moved(9, [1, 1, 1]));
+    assert_eq!(at(9).running_totals().map(|t| [t[0], t[1], t[2], t[3]]), Ok([5, 3, 1, 0]));
+    assert_eq!(at(9).refund(euros(10)), Err(Refusal::Refund));
+    assert_eq!(at(Amount::L).post(euros(1)), Err(Refusal::Limit));
+    assert_eq!(at(9).post(euros(-1)), Err(Refusal::Negative));
+    assert_eq!(Book::open(EUR, &[9_999, 1]).map(|b| b.count), Ok(2));
+    assert_eq!(Book::open(EUR, &[10_000, 1]), Err(Refusal::Weights));
+    assert_eq!(Book::open(Currency(21), &[]), Err(Refusal::Unknown));
+}

@@ -1,0 +1,48 @@
+-- An outcome has the number and the blamed date of what it says, so that a struct which holds one is flattened to what its promise says.
+-- Assumes nothing.
+use mathlib.Core.Path.{_≡_, refl, _∙_, ap}
+use mathlib.Core.List.{List}
+use Prim.Native.Nat.{ℕ}
+use Rattle.refusal.specs.Rows.{Said, meansOutcome}
+use Rattle.refusal.specs.declared.Checked.{Checked}
+use Rattle.refusal.specs.declared.Checked.the-variants.{Passed, Refused}
+use Rattle.amount.specs.declared.Currency.{Currency}
+use Rattle.book.specs.declared.Book.{Book}
+use Rattle.book.specs.declared.Opened.{Opened}
+use Rattle.book.specs.declared.Moved.{Moved}
+use Rattle.book.specs.declared.Totals.{Totals}
+use Rattle.book.specs.Moves.{Answers, openSaid, Opens, totalsSaid, Runs}
+use Rattle.morskebab.specs.Answers.{refusalOf, blamedOf}
+use Rattle.morskebab.specs.Books.{numberIn, blamedIn, bookOf, openedOf, movedOf, runningOf, openedFlat, movedFlat, totalsFlat}
+
+number-of : {A : Type 0} (o : Checked) (value : A) → numberIn o ≡ refusalOf (meansOutcome o value)
+number-of Passed value = refl
+number-of (Refused r) value = refl
+
+blamed-of : {A : Type 0} (o : Checked) (value : A) → blamedIn o ≡ blamedOf (meansOutcome o value)
+blamed-of Passed value = refl
+blamed-of (Refused r) value = refl
+
+pub said-number : {A : Type 0} (o : Checked) (value : A) (said : Said A) → meansOutcome o value ≡ said → numberIn o ≡ refusalOf said
+said-number o value said e = number-of o value ∙ ap refusalOf e
+
+said-blamed : {A : Type 0} (o : Checked) (value : A) (said : Said A) → meansOutcome o value ≡ said → blamedIn o ≡ blamedOf said
+said-blamed o value said e = blamed-of o value ∙ ap blamedOf e
+
+pub opened : (c : Currency) (ws : List ℕ) (r : Opened) → Opens c ws r → openedFlat r ≡ openedOf (openSaid c ws)
+opened c ws r p =
+    let number = said-number (r .outcome) (r .book) (openSaid c ws) (p .outcome) in
+    let blamed = said-blamed (r .outcome) (r .book) (openSaid c ws) (p .outcome) in
+    let book = ap bookOf (p .book) in λ i. record { refusal = number i; blamed = blamed i; book = book i }
+
+pub moved : (payouts : Book → Said ℕ → List ℕ) (b : Book) (said : Said ℕ) (r : Moved)
+    → Answers b said (payouts b said) r → movedFlat r ≡ movedOf payouts b said
+moved payouts b said r p =
+    let number = said-number (r .outcome) _ said (p .outcome) in
+    let blamed = said-blamed (r .outcome) _ said (p .outcome) in
+    let book = ap bookOf (p .book) in λ i. record { refusal = number i; blamed = blamed i; book = book i; payouts = p .paid i }
+
+pub ran : (b : Book) (r : Totals) → Runs b r → totalsFlat r ≡ runningOf (totalsSaid b)
+ran b r p =
+    let number = said-number (r .outcome) (r .totals) (totalsSaid b) (p .outcome) in
+    let blamed = said-blamed (r .outcome) (r .totals) (totalsSaid b) (p .outcome) in λ i. record { refusal = number i; blamed = blamed i; totals = p .totals i }

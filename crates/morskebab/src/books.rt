@@ -1,0 +1,49 @@
+// The share book.
+use crate::MkbAmount;
+use crate::MkbBook;
+use crate::MkbMoved;
+use crate::MkbOpened;
+use crate::MkbTotals;
+use crate::answers::flat_moved;
+use crate::answers::flat_opened;
+use crate::answers::flat_totals;
+use crate::given::given_amount;
+use crate::given::given_book;
+use amount::Currency;
+use book::Book;
+ghost use mathlib.Core.Path.{_≡_};
+ghost use Rattle.book.specs.Moves.{openSaid, postSaid, refundSaid, paidOf, takenOf, totalsSaid};
+ghost use Rattle.morskebab.specs.Given.{currencyFrom, amountFrom, bookFrom};
+ghost use Rattle.morskebab.specs.Books.{openedOf, movedOf, runningOf};
+
+// A book with these weights, as many partners as there are, and a net total of 0: refusals 4, 9.
+#[no_mangle]
+pub extern "C" fn mkb_open(currency: u8, weights: &[u32]) -> MkbOpened
+    ensures { λ r. ⌜ r ≡ openedOf (openSaid (currencyFrom currency) (now (weights .entry))) ⌝ }
+{
+    flat_opened(Book::open(Currency(currency), weights))
+}
+
+// The next book and what each partner is paid; refused, the given book and noughts: refusals 2, 3, 4, 5, 9, 10, 13.
+#[no_mangle]
+pub extern "C" fn mkb_post(book: MkbBook, a: MkbAmount) -> MkbMoved
+    ensures { λ r. ⌜ r ≡ movedOf paidOf (bookFrom book) (postSaid (bookFrom book) (amountFrom a)) ⌝ }
+{
+    flat_moved(given_book(book).post(given_amount(a)))
+}
+
+// The next book and what is taken back from each partner; refused, the given book and noughts: refusals 2, 3, 4, 5, 9, 10, 12.
+#[no_mangle]
+pub extern "C" fn mkb_refund(book: MkbBook, a: MkbAmount) -> MkbMoved
+    ensures { λ r. ⌜ r ≡ movedOf takenOf (bookFrom book) (refundSaid (bookFrom book) (amountFrom a)) ⌝ }
+{
+    flat_moved(given_book(book).refund(given_amount(a)))
+}
+
+// Each partner's running total at the book's net total: refusals 3, 4, 9, 10.
+#[no_mangle]
+pub extern "C" fn mkb_running_totals(book: MkbBook) -> MkbTotals
+    ensures { λ r. ⌜ r ≡ runningOf (totalsSaid (bookFrom book)) ⌝ }
+{
+    flat_totals(given_book(book).totals())
+}
