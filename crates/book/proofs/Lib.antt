@@ -12,5 +12,10 @@ pub mod Cases
 pub mod UselessBuilds
 mod Places
 mod Scan
-mod Shares
+mod Fitting
+mod Straddling
+mod Laid
+mod Walked
+mod Filled
+mod Cycles
 mod Answered

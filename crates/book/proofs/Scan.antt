@@ -1,26 +1,28 @@
--- The scan for a unit's taker, one place at a time: it holds the best place so far and its due number, and a number beyond every due
--- number while nobody may take the unit. Assumes nothing.
-use mathlib.Core.Path.{_≡_, refl, ap}
+-- A scan for the best place, one place at a time: it holds the best place so far and its due number, and while nobody may take the unit
+-- 16 and a number beyond every due number. Assumes nothing.
+use mathlib.Core.Path.{_≡_, refl}
 use mathlib.Core.Bool.{Bool, true, false}
 use Prim.Native.Nat.{ℕ, _+_, _≤_, _<_}
 use native.Mathlib.Numerals.{add-one}
 use native.Mathlib.Omega.{arith}
 use borrow.Author.Tests.{lt-ltb, le-ltb}
 use Rattle.units.specs.Rule.{Taker, nobody, place, better, bestOf}
+use Rattle.book.specs.Books.{partners}
+use Rattle.book.specs.Running.{late, numberOf}
 
-module _ (may : ℕ → Bool) (owed : ℕ → ℕ) (late : ℕ) where
+module _ (may : ℕ → Bool) (owed : ℕ → ℕ) where
   -- the best of some places, as the scan holds it
   abbrev pub Held : Taker → (best least : ℕ) → Type 0
-  Held nobody best least = least ≡ late
-  Held (place p) best least = (p ≡ best) × (least ≡ owed p)
+  Held nobody best least = (best ≡ partners) × (least ≡ late)
+  Held (place p) best least = (best ≡ p) × (least ≡ owed p)
 
   -- the best of the first i places
   abbrev pub Scanned : (i best least : ℕ) → Type 0
   Scanned i best least = Held (bestOf may owed i) best least
 
-  pub scan-start : (best : ℕ) → Scanned 0 best late
+  pub scan-start : Scanned 0 partners late
   unfolding bestOf
-  scan-start best = refl
+  scan-start = (refl, refl)
 
   module _ (i best least : ℕ) (held : Scanned i best least) where
     -- place i may not take the unit
@@ -50,10 +52,10 @@ module _ (may : ℕ → Bool) (owed : ℕ → ℕ) (late : ℕ) where
         go nobody h = rw m (refl, refl)
         go (place p) h = rw (m, lt-ltb (owed i) (owed p) (omega arith)) (refl, refl)
 
-    -- where someone may, the scan holds the taker
-    pub scan-end : (p : ℕ) → bestOf may owed i ≡ place p → bestOf may owed i ≡ place best
-    scan-end p = go (bestOf may owed i) held
+    -- the scan holds the best place, or 16
+    pub scan-end : best ≡ numberOf (bestOf may owed i)
+    scan-end = go (bestOf may owed i) held
       where
-        go : (b : Taker) → Held b best least → b ≡ place p → b ≡ place best
-        go nobody h e = let z : _≡_ {A = ℕ} 0 1 = cc in absurd (omega arith)
-        go (place q) h e = ap place (h .0)
+        go : (b : Taker) → Held b best least → best ≡ numberOf b
+        go nobody h = h .0
+        go (place p) h = h .0

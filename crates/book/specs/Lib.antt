@@ -1,3 +1,4 @@
 pub mod Books
 pub mod Moves
+pub mod Running
 pub mod History

@@ -3,10 +3,12 @@ use amount::Currency;
 use refusal::Checked;
 
 mod checks;
+mod full;
 mod moves;
 mod opening;
 mod running;
 mod weights;
+mod window;
 
 // A currency, a count of 1 to 16, sixteen weights (those past the count are 0) with sum W from 1 to 10,000, and a net total
 // from 0 to L. Any values may come in: every call checks them all.

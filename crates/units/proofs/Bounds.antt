@@ -30,7 +30,7 @@ places-weight ws f c i each h =
     (omega (arith, places-mul w c (length ws), ap (λ (z : ℕ). z * c) all)))
 
 -- one more in a slot is at most one more in any
-bump-bound : (slots : List ℕ) (x j : ℕ) → getD (bump slots x) j 0 ≤ getD slots j 0 + 1
+pub bump-bound : (slots : List ℕ) (x j : ℕ) → getD (bump slots x) j 0 ≤ getD slots j 0 + 1
 bump-bound slots x j = go (ℕ-discrete j x) (decLt x (length slots))
   where
     more : ℕ
