@@ -13,13 +13,13 @@ fn class(rest: u64, d: u64) -> Rest
     if rest == 0 {
         return Rest::Exact;
     }
+    if d - rest < rest {
+        return Rest::Above;
+    }
     if rest < d - rest {
         return Rest::Below;
     }
-    if rest == d - rest {
-        return Rest::Half;
-    }
-    Rest::Above
+    Rest::Half
 }
 
 // The magnitude of n / d under a rule, for a number of the given sign; 0 where d is 0.
@@ -32,9 +32,5 @@ pub fn round(rule: Rule, negative: bool, n: u64, d: u64) -> u64
     let quotient = n / d;
     let rest = class(n % d, d);
     let odd = quotient % 2 == 1;
-    if crate::modes::rises(rule, negative, odd, rest) {
-        quotient + 1
-    } else {
-        quotient
-    }
+    quotient + crate::modes::rises(rule, negative, odd, rest) as u64
 }

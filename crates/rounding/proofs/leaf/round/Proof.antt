@@ -1,11 +1,13 @@
 -- The quotient, and one more where the rule says so, which fits since there is a rest then. Assumes nothing.
-use mathlib.Core.Path.{_≡_, sym, _∙_, ap}
-use mathlib.Core.Bool.{true, false}
-use Prim.Native.Nat.{_<_, _/_, _%_}
-use native.Mathlib.Nat.{mod-lt}
+use mathlib.Core.Path.{_≡_, refl, sym, _∙_, ap}
+use mathlib.Core.Bool.{Bool, true, false}
+use Prim.Native.Nat.{ℕ, _+_, _<_, _/_, _%_, _^_}
+use native.Mathlib.Nat.{mod-lt, add-zero, div-le-self}
 use native.Mathlib.Omega.{arith}
 use borrow.Author.Needs.{needs}
 use borrow.Author.Tests.{eq-eqb}
+use mir.Syntax.{w64}
+use mir.Val.{Fits, boolByte}
 use Rattle.rounding.specs.Modes.{risesBy}
 use Rattle.rounding.specs.Leaf.{restOf, isOdd, raised, roundedMagnitude}
 use Rattle.rounding.proofs.Bounds.{at-divisor, rise-has-rest, below-numerator}
@@ -39,27 +41,30 @@ asked c =
     let a = c .before .before .before .args in
     c .rises .ensures ∙ ap (λ x. risesBy (a .rule) (a .negative) (isOdd (a .n / a .d)) x) (c .before .class .ensures)
 
+-- one more where the rule says so, as a number
+raised-is : (b : Bool) (q : ℕ) → q + boolByte b ≡ raised b q
+raised-is true q = refl
+raised-is false q = add-zero q
+
+-- it fits: the quotient rises only where there is a rest
+raised-fits : (b : Bool) (n d : ℕ) → n < 2 ^ 64 → 0 < d → (b ≡ true → 0 < n % d) → Fits w64 (n / d + boolByte b)
+raised-fits true n d fit some rest = record { fits = omega (arith, below-numerator n d some (rest refl)) }
+raised-fits false n d fit some rest = record { fits = omega (arith, div-le-self n d) }
+
+cast-result : tie.Need-cast-result
+cast-result c = search needs
+
 add-result : tie.Need-add-result
 add-result c =
-    let a = c .before .before .before .before .args in
-    let some = rise-has-rest (a .rule) (a .negative) (isOdd (a .n / a .d)) (a .n % a .d) (a .d) (sym (asked (c .before)) ∙ c .if2 .taken) in
-    omega (arith, below-numerator (a .n) (a .d) (omega (arith, c .before .before .before .if1 .left)) some, c .before .before .before .before .fits .n)
+    let a = c .before .before .before .args in
+    raised-fits (c .rises .result) (a .n) (a .d) (c .before .before .before .fits .n .fits) (omega (arith, c .before .before .if1 .left))
+    (λ e. rise-has-rest (a .rule) (a .negative) (isOdd (a .n / a .d)) (a .n % a .d) (a .d) (sym (asked c) ∙ e))
 
 returns-2 : tie.Need-returns-2
 returns-2 c =
-    let a = c .before .before .before .before .args in
-    sym
-    (at-divisor (a .rule) (a .negative) (a .n) (a .d) (omega (arith, c .before .before .before .if1 .left))
-    ∙ ap (λ b. raised b (a .n / a .d)) (sym (asked (c .before)) ∙ c .if2 .taken))
-
-returns-3 : tie.Need-returns-3
-returns-3 c =
-    let a = c .before .before .before .before .args in
-    sym
-    (at-divisor (a .rule) (a .negative) (a .n) (a .d) (omega (arith, c .before .before .before .if1 .left))
-    ∙ ap (λ b. raised b (a .n / a .d)) (sym (asked (c .before)) ∙ c .if2 .left))
+    let a = c .before .before .before .args in
+    raised-is (c .rises .result) (a .n / a .d) ∙ ap (λ b. raised b (a .n / a .d)) (asked c)
+    ∙ sym (at-divisor (a .rule) (a .negative) (a .n) (a .d) (omega (arith, c .before .before .if1 .left)))
 
 pub round-spec : {M : Type 1} → statement M
-round-spec =
-    tie.close
-    (tie.spec returns div-quotient rem-class class-requires rises-requires add-result returns-2 returns-3)
+round-spec = tie.close (tie.spec returns div-quotient rem-class class-requires rises-requires cast-result add-result returns-2)
