@@ -1,7 +1,7 @@
 // Tax in and out of a price.
 use crate::MkbAmount;
 use crate::MkbSplit;
-use crate::answers::flat_split;
+use crate::answers::prices::flat_split;
 use crate::given::given_amount;
 use tax::tax_from_gross;
 use tax::tax_from_net;

@@ -1,6 +1,6 @@
 // One-off sharing.
 use crate::MkbAmount;
-use crate::answers::flat_number;
+use crate::answers::outcomes::flat_number;
 use crate::given::given_amount;
 use sharing::share;
 ghost use mathlib.Core.Path.{_≡_};

@@ -1,0 +1,17 @@
+// A line of the table of currencies, field for field.
+use crate::MkbLine;
+use amount::Line;
+ghost use mathlib.Core.Path.{_≡_};
+ghost use Rattle.morskebab.specs.Answers.{lineFlat};
+
+pub(crate) fn flat_line(line: Line) -> MkbLine
+    ensures { λ r. ⌜ r ≡ lineFlat line ⌝ }
+{
+    let code = line.code;
+    MkbLine {
+        code,
+        places: line.places,
+        digits: line.digits,
+        figures: line.figures,
+    }
+}
