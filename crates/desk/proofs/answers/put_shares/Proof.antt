@@ -1,0 +1,67 @@
+use mathlib.Core.Path.{_≡_}
+use Prim.Native.Nat.{_-_}
+use lib.ListN.{length}
+use borrow.Author.Needs.{needs}
+use Rattle.desk.proofs.answers.put_shares.Statement.{statement}
+use Rattle.desk.proofs.answers.put_shares.Tie as tie
+
+abbrev Inv-loop : tie.InvT-loop
+Inv-loop out₀ at shares count behind₀ i₀ out behind i = length out ≡ length out₀
+
+abbrev μ-loop : tie.MeasureT-loop
+μ-loop out₀ at shares count behind₀ i₀ out behind i = count - i
+
+put-accepted-requires : tie.Need-put-accepted-requires Inv-loop μ-loop
+put-accepted-requires c κs = search needs
+
+loop-holds : tie.Need-loop-holds Inv-loop μ-loop
+loop-holds c = search needs
+
+same-length : tie.Need-same-length Inv-loop μ-loop
+same-length c = search needs
+
+returns : tie.Need-returns Inv-loop μ-loop
+returns c = search needs
+
+mul-put-whole : tie.Need-mul-put-whole Inv-loop μ-loop
+mul-put-whole c = search needs
+
+shared-slice-copy-out-put-whole : tie.Need-shared-slice-copy-out-put-whole Inv-loop μ-loop
+shared-slice-copy-out-put-whole c = search needs
+
+put-whole-requires : tie.Need-put-whole-requires Inv-loop μ-loop
+put-whole-requires c κs = search needs
+
+add-i : tie.Need-add-i Inv-loop μ-loop
+add-i c = search needs
+
+loop-less : tie.Need-loop-less Inv-loop μ-loop
+loop-less c = search needs
+
+loop-again : tie.Need-loop-again Inv-loop μ-loop
+loop-again c = search needs
+
+same-length-2 : tie.Need-same-length-2 Inv-loop μ-loop
+same-length-2 c = search needs
+
+returns-2 : tie.Need-returns-2 Inv-loop μ-loop
+returns-2 c = search needs
+
+pub put-shares-spec : {M : Type 1} → statement M
+put-shares-spec =
+    tie.close
+    (tie.spec
+    Inv-loop
+    μ-loop
+    put-accepted-requires
+    loop-holds
+    same-length
+    returns
+    mul-put-whole
+    shared-slice-copy-out-put-whole
+    put-whole-requires
+    add-i
+    loop-less
+    loop-again
+    same-length-2
+    returns-2)

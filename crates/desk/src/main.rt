@@ -1,0 +1,39 @@
+// The library at a prompt: one answer line for each line of standard input, or of the file that the one argument names.
+mod answers;
+mod asking;
+mod books;
+mod calls;
+mod numbers;
+mod serving;
+mod verbs;
+
+use libc::STDERR_FILENO;
+use libc::STDIN_FILENO;
+use serving::serve;
+
+// The file of the program's first argument.
+fn serve_file() {
+    let mut path = io::buffer();
+    let length = os::arg(1, &mut path);
+    if os::errno() != 0 {
+        os::fail(b"path");
+        return;
+    }
+    let fd = os::open_read(&path[..length]);
+    if fd < 0 {
+        os::fail(&path[..length]);
+        return;
+    }
+    serve(fd);
+    libc::close(fd);
+}
+
+fn main() {
+    match os::arg_count() {
+        0 | 1 => serve(STDIN_FILENO),
+        2 => serve_file(),
+        _ => {
+            io::write_all(STDERR_FILENO, b"one argument at most: the file to read\n");
+        },
+    }
+}

@@ -1,0 +1,5 @@
+mod Choices
+mod Stops
+mod Ways
+mod Moves
+pub mod Inside
