@@ -15,13 +15,13 @@ use crate::calls::share_of;
 use crate::calls::sum_of;
 use crate::calls::tax_gross;
 use crate::calls::tax_net;
-use crate::numbers::Given;
-use crate::numbers::next_word;
-use crate::numbers::read_numbers;
 use crate::verbs::Verb;
 use crate::verbs::takes;
 use crate::verbs::verb_of;
 use book::Book;
+use intake::Given;
+use intake::next_word;
+use intake::read_numbers;
 use lines::put_bytes;
 
 // A call that needs no book and takes a fixed count of numbers, which are there.

@@ -3,12 +3,12 @@ use crate::answers::put_accepted;
 use crate::answers::put_places;
 use crate::answers::put_refused;
 use crate::answers::put_whole;
-use crate::numbers::amount_at;
-use crate::numbers::read_weights;
-use crate::numbers::small_at;
 use amount::Currency;
 use book::Book;
 use book::Moved;
+use intake::amount_at;
+use intake::read_weights;
+use intake::u8_at;
 use lines::put_bytes;
 use refusal::Checked;
 
@@ -43,7 +43,7 @@ pub fn open(
     out: &mut [u8],
     at: usize,
 ) -> Answered {
-    let currency = Currency(small_at(signs, values, 0));
+    let currency = Currency(u8_at(signs, values, 0));
     let partners = read_weights(signs, values, 1, count, weights);
     let opened = Book::open(currency, &weights[0..partners]);
     let book = opened.book;

@@ -5,19 +5,20 @@ use crate::answers::put_count;
 use crate::answers::put_refused;
 use crate::answers::put_shares;
 use crate::answers::put_whole;
-use crate::numbers::amount_at;
-use crate::numbers::date_at;
-use crate::numbers::divisor_at;
-use crate::numbers::rate_at;
-use crate::numbers::read_weights;
-use crate::numbers::small_at;
-use crate::numbers::whole_at;
 use amount::Amount;
 use amount::Answer;
 use amount::Currency;
 use amount::Order;
 use amount::Ordered;
 use euro::convert;
+use intake::amount_at;
+use intake::i64_at;
+use intake::read_weights;
+use intake::u8_at;
+use intake::u16_at;
+use intake::u32_at;
+use intake::u64_at;
+use interest::Date;
 use interest::DayCount;
 use interest::day_count;
 use lines::put_bytes;
@@ -28,11 +29,12 @@ use sharing::share;
 use tax::Taxed;
 use tax::tax_from_gross;
 use tax::tax_from_net;
+ghost use Prim.Native.Nat.{_+_, _<_, _^_};
 
 pub fn round(signs: &[bool], values: &[u64], out: &mut [u8], at: usize) -> usize {
-    let n = whole_at(signs, values, 1);
-    let d = divisor_at(signs, values, 2);
-    match plain_quotient(small_at(signs, values, 0), n, d) {
+    let n = i64_at(signs, values, 1);
+    let d = u64_at(signs, values, 2);
+    match plain_quotient(u8_at(signs, values, 0), n, d) {
         Quotient::Refused(refusal) => put_refused(out, at, refusal),
         Quotient::Value(x) => {
             let behind = put_accepted(out, at);
@@ -78,14 +80,14 @@ pub fn negate(signs: &[bool], values: &[u64], out: &mut [u8], at: usize) -> usiz
 
 pub fn rescale(signs: &[bool], values: &[u64], out: &mut [u8], at: usize) -> usize {
     let amount = amount_at(signs, values, 0);
-    let scale = small_at(signs, values, 3);
-    let mode = small_at(signs, values, 4);
+    let scale = u8_at(signs, values, 3);
+    let mode = u8_at(signs, values, 4);
     put_answer(out, at, amount.rescale(scale, mode))
 }
 
 pub fn converted(signs: &[bool], values: &[u64], out: &mut [u8], at: usize) -> usize {
     let amount = amount_at(signs, values, 0);
-    let to = Currency(small_at(signs, values, 3));
+    let to = Currency(u8_at(signs, values, 3));
     put_answer(out, at, convert(amount, to))
 }
 
@@ -98,13 +100,23 @@ fn put_interest(out: &mut [u8], at: usize, amount: Amount, days: DayCount) -> us
     }
 }
 
+fn date_at(signs: &[bool], values: &[u64], place: usize) -> Date
+    requires { ⌜ place + 2 < 2 ^ 64 ⌝ }
+{
+    Date {
+        year: u16_at(signs, values, place),
+        month: u8_at(signs, values, place + 1),
+        day: u8_at(signs, values, place + 2),
+    }
+}
+
 pub fn interest_of(signs: &[bool], values: &[u64], out: &mut [u8], at: usize) -> usize {
     let principal = amount_at(signs, values, 0);
-    let rate = rate_at(signs, values, 3);
-    let basis = small_at(signs, values, 4);
+    let rate = u32_at(signs, values, 3);
+    let basis = u8_at(signs, values, 4);
     let start = date_at(signs, values, 5);
     let end = date_at(signs, values, 8);
-    let mode = small_at(signs, values, 11);
+    let mode = u8_at(signs, values, 11);
     match interest::interest(principal, rate, basis, start, end, mode) {
         Answer::Refused(refusal) => put_refused(out, at, refusal),
         Answer::Value(amount) => put_interest(out, at, amount, day_count(basis, start, end)),
@@ -119,7 +131,7 @@ fn put_two(out: &mut [u8], at: usize, one: i64, other: i64) -> usize {
 
 pub fn tax_net(signs: &[bool], values: &[u64], out: &mut [u8], at: usize) -> usize {
     let net = amount_at(signs, values, 0);
-    match tax_from_net(net, rate_at(signs, values, 3), small_at(signs, values, 4)) {
+    match tax_from_net(net, u32_at(signs, values, 3), u8_at(signs, values, 4)) {
         Taxed::Refused(refusal) => put_refused(out, at, refusal),
         Taxed::Value(split) => put_two(out, at, split.tax.coefficient, split.gross.coefficient),
     }
@@ -127,7 +139,7 @@ pub fn tax_net(signs: &[bool], values: &[u64], out: &mut [u8], at: usize) -> usi
 
 pub fn tax_gross(signs: &[bool], values: &[u64], out: &mut [u8], at: usize) -> usize {
     let gross = amount_at(signs, values, 0);
-    match tax_from_gross(gross, rate_at(signs, values, 3), small_at(signs, values, 4)) {
+    match tax_from_gross(gross, u32_at(signs, values, 3), u8_at(signs, values, 4)) {
         Taxed::Refused(refusal) => put_refused(out, at, refusal),
         Taxed::Value(split) => put_two(out, at, split.tax.coefficient, split.net.coefficient),
     }

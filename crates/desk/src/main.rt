@@ -3,7 +3,6 @@ mod answers;
 mod asking;
 mod books;
 mod calls;
-mod numbers;
 mod serving;
 mod verbs;
 

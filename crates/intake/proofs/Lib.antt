@@ -1,5 +1,7 @@
 mod Choices
 mod Stops
 mod Ways
+mod Stores
 mod Moves
+mod Weights
 pub mod Inside

@@ -1,6 +1,8 @@
-// Lines out of a stream that comes in chunks: the next line of the bytes that are held, and what is kept for the next chunk.
+// Lines out of a stream that comes in chunks: the next line of the bytes that are held, what is kept for the next chunk, and a line's
+// numbers.
 mod cuts;
 mod keeping;
+mod numbers;
 
 // The longest line that is read.
 pub const LONGEST: usize = 4_000;
@@ -35,5 +37,20 @@ pub struct Cut {
     pub next: Intake,
 }
 
+// The words behind a line's first: so many numbers, or not numbers alone.
+pub enum Given {
+    Numbers(usize),
+    Others,
+}
+
 pub use cuts::next_line;
 pub use keeping::keep;
+pub use numbers::amount_at;
+pub use numbers::i64_at;
+pub use numbers::next_word;
+pub use numbers::read_numbers;
+pub use numbers::read_weights;
+pub use numbers::u8_at;
+pub use numbers::u16_at;
+pub use numbers::u32_at;
+pub use numbers::u64_at;

@@ -1,6 +1,6 @@
 -- The months of a year: their lengths, and the days of the first so many of them, which grow with the months and make 365 days or, in
 -- a leap year, 366. Assumes nothing.
-use mathlib.Core.Path.{_≡_, refl, sym}
+use mathlib.Core.Path.{_≡_, refl, sym, ap₂}
 use mathlib.Core.Bool.{Bool, true, false, cond, _||_}
 use mathlib.Core.Logic.{_⊎_, inl, inr}
 use Prim.Native.Nat.{ℕ, zero, suc, _+_, _-_, _≤_}
@@ -40,20 +40,23 @@ module _ (year m : ℕ) (first : 1 ≤ m) (last : m ≤ 12) where
       )
       at (each-at (λ k. eqb k 0 || eqb k 2 || eqb k 4 || eqb k 6 || eqb k 9 || eqb k 11 || eqb (monthLength year k) 31) 13 refl m (omega arith))))
 
-  pub some-day : 1 ≤ monthLength year m
+  pub days-28 : 28 ≤ monthLength year m
   unfolding monthLength
-  some-day = at (ℕ-discrete m 2)
+  days-28 = at (ℕ-discrete m 2)
     where
-      february : (b : Bool) → 1 ≤ cond b 29 28
+      february : (b : Bool) → 28 ≤ cond b 29 28
       february true = omega arith
       february false = omega arith
 
-      at : Dec (m ≡ 2) → 1 ≤ monthLength year m
+      at : Dec (m ≡ 2) → 28 ≤ monthLength year m
       at (yes e) = rw e (february (leap year))
       at (no f) =
-          leb-true 1 (monthLength year m)
+          leb-true 28 (monthLength year m)
           (simp (ne-eqb m 0 (omega arith), ne-eqb m 2 f)
-          at (each-at (λ k. eqb k 0 || eqb k 2 || leb 1 (monthLength year k)) 13 refl m (omega arith)))
+          at (each-at (λ k. eqb k 0 || eqb k 2 || leb 28 (monthLength year k)) 13 refl m (omega arith)))
+
+  pub some-day : 1 ≤ monthLength year m
+  some-day = omega (arith, days-28)
 
 pub no-months : (year : ℕ) → daysOfMonths year 0 ≡ 0
 unfolding daysOfMonths
@@ -83,3 +86,35 @@ year-within year = rw (year-length year) (at (leap year))
     at : (b : Bool) → (365 ≤ 365 + cond b 1 0) × (365 + cond b 1 0 ≤ 366)
     at true = omega arith
     at false = omega arith
+
+-- the days of the months behind February, by those of 1901, which is not leap
+by-common : (year m : ℕ) → daysOfMonths year (suc (suc m)) ≡ daysOfMonths 1901 (suc (suc m)) + cond (leap year) 1 0
+unfolding leap daysOfMonths monthLength
+by-common year zero = at (leap year)
+  where
+    at : (b : Bool) → 0 + 31 + cond b 29 28 ≡ 59 + cond b 1 0
+    at true = refl
+    at false = refl
+by-common year (suc m) = both (daysOfMonths year (suc (suc m))) (daysOfMonths 1901 (suc (suc m))) (monthLength 1901 (suc (suc (suc m)))) _ (by-common year m)
+  where
+    both : (a b length one : ℕ) → a ≡ b + one → a + length ≡ b + length + one
+    both a b length one e = omega arith
+
+pub behind-february : (year month : ℕ) → 3 ≤ month → daysOfMonths year (month - 1) ≡ daysOfMonths 1901 (month - 1) + cond (leap year) 1 0
+behind-february year month h = let months : month - 1 ≡ suc (suc (month - 3)) = omega arith in rw months (by-common year (month - 3))
+
+pub before-march : (year m : ℕ) → m ≤ 1 → daysOfMonths year m ≡ daysOfMonths 1901 m
+unfolding daysOfMonths monthLength
+before-march year zero h = refl
+before-march year (suc zero) h = refl
+before-march year (suc (suc m)) h = absurd (omega arith)
+
+-- a year that is not leap has the months of 1901
+common-length : (year m : ℕ) → leap year ≡ false → monthLength year m ≡ monthLength 1901 m
+unfolding leap monthLength
+common-length year m e = rw e
+
+pub common-year : (year m : ℕ) → leap year ≡ false → daysOfMonths year m ≡ daysOfMonths 1901 m
+unfolding daysOfMonths
+common-year year zero e = refl
+common-year year (suc m) e = ap₂ _+_ (common-year year m e) (common-length year (suc m) e)

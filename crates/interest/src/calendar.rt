@@ -53,6 +53,10 @@ fn exists_on(year: u16, month: u8, day: u8) -> bool
     if day < 1 {
         return false;
     }
+    // every month has 28 days
+    if day <= 28 {
+        return true;
+    }
     day <= month_length(year, month)
 }
 
@@ -72,25 +76,38 @@ fn days_before_year(year: u16) -> u32
     365 * (past - 1899) + past / 4 - past / 100 + past / 400 - 460
 }
 
-// The days of the year before the month.
+// The days before the month in a year that is not leap, as 1901 is not.
+fn common_days(month: u8) -> u32
+    requires { ⌜ (1 ≤ month) × (month ≤ 12) ⌝ }
+    ensures { λ r. ⌜ r ≡ daysOfMonths 1901 (month - 1) ⌝ }
+{
+    match month {
+        1 => 0,
+        2 => 31,
+        3 => 59,
+        4 => 90,
+        5 => 120,
+        6 => 151,
+        7 => 181,
+        8 => 212,
+        9 => 243,
+        10 => 273,
+        11 => 304,
+        _ => 334,
+    }
+}
+
+// The days of the year before the month: one more behind the February of a leap year.
 fn days_before_month(year: u16, month: u8) -> u32
     requires { ⌜ (1 ≤ month) × (month ≤ 12) ⌝ }
     ensures { λ r. ⌜ r ≡ daysOfMonths year (month - 1) ⌝ }
 {
-    let february = february(year) as u32;
-    match month {
-        1 => 0,
-        2 => 31,
-        3 => 31 + february,
-        4 => 62 + february,
-        5 => 92 + february,
-        6 => 123 + february,
-        7 => 153 + february,
-        8 => 184 + february,
-        9 => 215 + february,
-        10 => 245 + february,
-        11 => 276 + february,
-        _ => 306 + february,
+    let leap = is_leap(year);
+    let common = common_days(month);
+    if leap {
+        if 2 < month { common + 1 } else { common }
+    } else {
+        common
     }
 }
 

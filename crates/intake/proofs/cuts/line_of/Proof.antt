@@ -1,3 +1,4 @@
+-- A line is too long by what it has without its carriage return. Assumes nothing.
 use borrow.Author.Needs.{needs}
 use borrow.Author.Tests.{le-ltb, lt-ltb}
 use Rattle.intake.specs.Cuts.{lineOf}

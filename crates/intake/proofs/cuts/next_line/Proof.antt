@@ -1,3 +1,4 @@
+-- The cut is the one defined, and its places lie among the bytes that are held. Assumes nothing.
 use borrow.Author.Needs.{needs}
 use denote.Ref.{now}
 use Rattle.intake.proofs.Inside.{cut-inside}

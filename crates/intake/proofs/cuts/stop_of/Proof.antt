@@ -1,3 +1,4 @@
+-- A carriage return before the end is dropped, one. Assumes nothing.
 use borrow.Author.Needs.{needs}
 use borrow.Author.Tests.{le-ltb, lt-ltb, eq-eqb, ne-eqb}
 use Rattle.intake.specs.Cuts.{stopOf}

@@ -1,3 +1,4 @@
+-- What is kept is what the definition keeps where the tests came out so. Assumes nothing.
 use borrow.Author.Needs.{needs}
 use borrow.Author.Tests.{le-ltb, lt-ltb}
 use Rattle.intake.specs.Cuts.{unendedOf}

@@ -1,126 +1,44 @@
--- Each arm adds up the months before its own. Assumes nothing.
-use borrow.Author.Needs.{needs}
-use mathlib.Core.Path.{_≡_}
-use Prim.Native.Nat.{_≤_}
+-- The months before March are those of every year, and behind the February of a leap year stands one day more. Assumes nothing.
+use mathlib.Core.Path.{sym, _∙_, ap}
+use mathlib.Core.Bool.{Bool, cond}
+use Prim.Native.Nat.{_+_, _-_}
 use native.Mathlib.Omega.{arith}
-use Rattle.interest.specs.Calendar.{monthLength, daysOfMonths}
-use Rattle.interest.proofs.Numbers.{past}
+use borrow.Author.Needs.{needs}
+use Rattle.interest.proofs.Months.{months-rise, year-within, behind-february, before-march, common-year}
 use Rattle.interest.proofs.calendar.days_before_month.Statement.{statement}
 use Rattle.interest.proofs.calendar.days_before_month.Tie as tie
 
-february-requires : tie.Need-february-requires
-february-requires c κs = search needs
+is-leap-requires : tie.Need-is-leap-requires
+is-leap-requires c κs = search needs
 
-cast-february : tie.Need-cast-february
-cast-february c = search needs
+common-days-requires : tie.Need-common-days-requires
+common-days-requires c κs = search needs
 
 add-result : tie.Need-add-result
-add-result c = search needs
-
-add-result-2 : tie.Need-add-result-2
-add-result-2 c = search needs
-
-add-result-3 : tie.Need-add-result-3
-add-result-3 c = search needs
-
-add-result-4 : tie.Need-add-result-4
-add-result-4 c = search needs
-
-add-result-5 : tie.Need-add-result-5
-add-result-5 c = search needs
-
-add-result-6 : tie.Need-add-result-6
-add-result-6 c = search needs
-
-add-result-7 : tie.Need-add-result-7
-add-result-7 c = search needs
-
-add-result-8 : tie.Need-add-result-8
-add-result-8 c = search needs
-
-add-result-9 : tie.Need-add-result-9
-add-result-9 c = search needs
-
-add-result-10 : tie.Need-add-result-10
-add-result-10 c = search needs
+add-result c =
+    let s = c .before .before in
+    omega (arith, s .common-days .ensures, s .before .before .pre, months-rise 1901 (s .before .before .args .month - 1) 12 (omega (arith, s .before .before .pre)), year-within 1901)
 
 returns : tie.Need-returns
-unfolding daysOfMonths monthLength
-returns c = rw (c .match .keys1)
+returns c =
+    let s = c .before .before in
+    let a = s .before .before .args in
+    let leap = sym (s .before .is-leap .ensures) ∙ c .before .if1 .taken in
+    omega (arith, s .common-days .ensures, rw leap at (behind-february (a .year) (a .month) (omega (arith, c .if2 .taken))))
 
 returns-2 : tie.Need-returns-2
-unfolding daysOfMonths monthLength
-returns-2 c = rw (c .match .keys2)
+returns-2 c =
+    let s = c .before .before in
+    let a = s .before .before .args in
+    s .common-days .ensures ∙ sym (before-march (a .year) (a .month - 1) (omega (arith, c .if2 .left)))
 
 returns-3 : tie.Need-returns-3
-unfolding daysOfMonths monthLength
-returns-3 c = rw (c .match .keys3) (omega (arith, c .before .february .ensures))
-
-returns-4 : tie.Need-returns-4
-unfolding daysOfMonths monthLength
-returns-4 c = rw (c .match .keys4) (omega (arith, c .before .february .ensures))
-
-returns-5 : tie.Need-returns-5
-unfolding daysOfMonths monthLength
-returns-5 c = rw (c .match .keys5) (omega (arith, c .before .february .ensures))
-
-returns-6 : tie.Need-returns-6
-unfolding daysOfMonths monthLength
-returns-6 c = rw (c .match .keys6) (omega (arith, c .before .february .ensures))
-
-returns-7 : tie.Need-returns-7
-unfolding daysOfMonths monthLength
-returns-7 c = rw (c .match .keys7) (omega (arith, c .before .february .ensures))
-
-returns-8 : tie.Need-returns-8
-unfolding daysOfMonths monthLength
-returns-8 c = rw (c .match .keys8) (omega (arith, c .before .february .ensures))
-
-returns-9 : tie.Need-returns-9
-unfolding daysOfMonths monthLength
-returns-9 c = rw (c .match .keys9) (omega (arith, c .before .february .ensures))
-
-returns-10 : tie.Need-returns-10
-unfolding daysOfMonths monthLength
-returns-10 c = rw (c .match .keys10) (omega (arith, c .before .february .ensures))
-
-returns-11 : tie.Need-returns-11
-unfolding daysOfMonths monthLength
-returns-11 c = rw (c .match .keys11) (omega (arith, c .before .february .ensures))
-
-returns-12 : tie.Need-returns-12
-unfolding daysOfMonths monthLength
-returns-12 c =
-    let month = c .before .before .args .month in
-    let last : 12 ≤ month = past month 1 11 (c .before .before .pre .0) (c .match .rest) in
-    let december : month ≡ 12 = omega (arith, c .before .before .pre) in
-    rw december (omega (arith, c .before .february .ensures))
+returns-3 c =
+    let s = c .before in
+    let a = s .before .before .args in
+    s .common-days .ensures ∙ sym (common-year (a .year) (a .month - 1) (sym (s .before .is-leap .ensures) ∙ c .if1 .left))
 
 pub days-before-month-spec : {M : Type 1} → statement M
 days-before-month-spec =
     tie.close
-    (tie.spec
-    february-requires
-    cast-february
-    add-result
-    add-result-2
-    add-result-3
-    add-result-4
-    add-result-5
-    add-result-6
-    add-result-7
-    add-result-8
-    add-result-9
-    add-result-10
-    returns
-    returns-2
-    returns-3
-    returns-4
-    returns-5
-    returns-6
-    returns-7
-    returns-8
-    returns-9
-    returns-10
-    returns-11
-    returns-12)
+    (tie.spec is-leap-requires common-days-requires add-result returns returns-2 returns-3)

@@ -2,7 +2,9 @@
 use native.Mathlib.Omega.{arith}
 use borrow.Author.Needs.{needs}
 use borrow.Author.Tests.{le-leb, lt-leb}
-use Rattle.interest.specs.Calendar.{exists}
+use Prim.Native.Nat.{_≤_}
+use Rattle.interest.specs.Calendar.{monthLength, exists}
+use Rattle.interest.proofs.Months.{days-28}
 use Rattle.interest.proofs.calendar.exists_on.Statement.{statement}
 use Rattle.interest.proofs.calendar.exists_on.Tie as tie
 
@@ -49,13 +51,27 @@ returns-5 c =
       lt-leb 1 (a .day) (omega arith),
     )
 
-month-length-requires : tie.Need-month-length-requires
-month-length-requires c κs = search needs
-
 returns-6 : tie.Need-returns-6
 unfolding exists
 returns-6 c =
     let a = c .before .before .before .before .before .before .args in
+    let most : 28 ≤ monthLength (a .year) (a .month) = days-28 (a .year) (a .month) (omega arith) (omega arith) in
+    simp (
+      le-leb 1900 (a .year) (omega arith),
+      le-leb (a .year) 2199 (omega arith),
+      le-leb 1 (a .month) (omega arith),
+      le-leb (a .month) 12 (omega arith),
+      le-leb 1 (a .day) (omega arith),
+      le-leb (a .day) (monthLength (a .year) (a .month)) (omega arith),
+    )
+
+month-length-requires : tie.Need-month-length-requires
+month-length-requires c κs = search needs
+
+returns-7 : tie.Need-returns-7
+unfolding exists
+returns-7 c =
+    let a = c .before .before .before .before .before .before .before .args in
     simp (
       le-leb 1900 (a .year) (omega arith),
       le-leb (a .year) 2199 (omega arith),
@@ -68,4 +84,4 @@ returns-6 c =
 pub exists-on-spec : {M : Type 1} → statement M
 exists-on-spec =
     tie.close
-    (tie.spec returns returns-2 returns-3 returns-4 returns-5 month-length-requires returns-6)
+    (tie.spec returns returns-2 returns-3 returns-4 returns-5 returns-6 month-length-requires returns-7)

@@ -3,8 +3,8 @@ use native.Mathlib.Omega.{arith}
 use borrow.Author.Needs.{needs}
 use denote.Ref.{now}
 use Rattle.lines.proofs.FirstWord.{start-from, start-end, end-within}
-use Rattle.desk.proofs.numbers.next_word.Statement.{statement}
-use Rattle.desk.proofs.numbers.next_word.Tie as tie
+use Rattle.intake.proofs.numbers.next_word.Statement.{statement}
+use Rattle.intake.proofs.numbers.next_word.Tie as tie
 
 word-from-requires : tie.Need-word-from-requires
 word-from-requires c κs = search needs

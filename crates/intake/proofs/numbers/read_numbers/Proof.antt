@@ -2,8 +2,8 @@ use mathlib.Core.Path.{_≡_}
 use Prim.Native.Nat.{_≤_, _-_}
 use lib.ListN.{length}
 use borrow.Author.Needs.{needs}
-use Rattle.desk.proofs.numbers.read_numbers.Statement.{statement}
-use Rattle.desk.proofs.numbers.read_numbers.Tie as tie
+use Rattle.intake.proofs.numbers.read_numbers.Statement.{statement}
+use Rattle.intake.proofs.numbers.read_numbers.Tie as tie
 
 abbrev Inv-loop : tie.InvT-loop
 Inv-loop line from signs₀ values₀ at₀ count₀ signs values at count = (count ≤ at) × (length signs ≡ length signs₀) × (length values ≡ length values₀)

@@ -1,28 +1,29 @@
-use mathlib.Core.Path.{_≡_}
-use Prim.Native.Nat.{_≤_, _-_}
-use native.Mathlib.Omega.{arith}
-use lib.ListN.{length, length-set}
+-- After each turn one weight more is written. Assumes nothing.
+use Prim.Native.Nat.{_-_}
 use borrow.Author.Needs.{needs}
-use Rattle.desk.proofs.numbers.read_weights.Statement.{statement}
-use Rattle.desk.proofs.numbers.read_weights.Tie as tie
+use lib.ListN.{length}
+use Rattle.intake.proofs.Weights.{Written, none-written, one-written, no-room, no-more}
+use Rattle.intake.proofs.numbers.read_weights.Statement.{statement}
+use Rattle.intake.proofs.numbers.read_weights.Tie as tie
 
 abbrev Inv-loop : tie.InvT-loop
-Inv-loop signs values from to weights₀ count₀ i₀ weights count i = (count ≤ length weights) × (length weights ≡ length weights₀)
+Inv-loop signs values from to weights₀ count₀ i₀ weights count i =
+    Written signs values from to (length weights₀) weights count i
 
 abbrev μ-loop : tie.MeasureT-loop
 μ-loop signs values from to weights₀ count₀ i₀ weights count i = to - i
 
 loop-holds : tie.Need-loop-holds Inv-loop μ-loop
-loop-holds c = search needs
+loop-holds c = none-written _ _ _ _ _
 
 same-length : tie.Need-same-length Inv-loop μ-loop
-same-length c = search needs
+same-length c = c .before .before .loop .inv .sized
 
 returns : tie.Need-returns Inv-loop μ-loop
-returns c = search needs
+returns c = no-room _ _ _ _ _ _ _ _ (c .before .before .loop .inv) (c .if1 .taken)
 
-rate-at-requires : tie.Need-rate-at-requires Inv-loop μ-loop
-rate-at-requires c κs = search needs
+u32-at-requires : tie.Need-u32-at-requires Inv-loop μ-loop
+u32-at-requires c κs = search needs
 
 mul-weights : tie.Need-mul-weights Inv-loop μ-loop
 mul-weights c = search needs
@@ -40,13 +41,15 @@ loop-less : tie.Need-loop-less Inv-loop μ-loop
 loop-less c = search needs
 
 loop-again : tie.Need-loop-again Inv-loop μ-loop
-loop-again c = (simp length-set (omega arith), simp length-set (omega arith))
+loop-again c =
+    one-written _ _ _ _ _ _ _ _ (c .before .before .before .loop .inv) _ (c .before .before .loop-test .taken) (c .before .if1 .left)
+    (c .u32-at .ensures)
 
 same-length-2 : tie.Need-same-length-2 Inv-loop μ-loop
-same-length-2 c = search needs
+same-length-2 c = c .before .loop .inv .sized
 
 returns-2 : tie.Need-returns-2 Inv-loop μ-loop
-returns-2 c = search needs
+returns-2 c = no-more _ _ _ _ _ _ _ _ (c .before .loop .inv) (c .loop-test .left)
 
 pub read-weights-spec : {M : Type 1} → statement M
 read-weights-spec =
@@ -57,7 +60,7 @@ read-weights-spec =
     loop-holds
     same-length
     returns
-    rate-at-requires
+    u32-at-requires
     mul-weights
     slice-write-weights
     add-count

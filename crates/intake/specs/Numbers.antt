@@ -1,0 +1,30 @@
+-- The number at a place of two lists, signs and magnitudes, as a type holds it; amounts and weights from a place on. Assumes nothing.
+use mathlib.Core.Path.{_≡_}
+use mathlib.Core.Bool.{Bool, false}
+use mathlib.Core.List.{List}
+use Prim.Native.Nat.{ℕ, _+_, _-_, _≤_, _<_, min}
+use lib.IntN.{ℤ}
+use lib.ListN.{length, getD}
+use Rattle.amount.specs.declared.Amount.{Amount}
+use Rattle.lines.specs.Lines.{asUnsigned, asSigned}
+
+abbrev pub unsignedAt : (largest : ℕ) → List Bool → List ℕ → ℕ → ℕ
+unsignedAt largest signs values place = asUnsigned largest (getD signs place false) (getD values place 0)
+
+abbrev pub signedAt : List Bool → List ℕ → ℕ → ℤ
+signedAt signs values place = asSigned (getD signs place false) (getD values place 0)
+
+-- a currency, a scale and a coefficient, from a place on
+abbrev pub amountAt : List Bool → List ℕ → ℕ → Amount
+amountAt signs values place =
+    record {
+      currency = record { 0 = unsignedAt 255 signs values place };
+      scale = unsignedAt 255 signs values (place + 1);
+      coefficient = signedAt signs values (place + 2);
+    }
+
+-- the numbers from one place up to another as weights: the first of them, as many as the list has places for
+pub record Weighs (signs : List Bool) (values : List ℕ) (from to : ℕ) (weights : List ℕ) (count : ℕ) : Type 0 where
+  pub counted : count ≡ min (to - from) (length weights)
+  pub inside : count ≤ length weights
+  pub each : (k : ℕ) → k < count → getD weights k 0 ≡ unsignedAt 4294967295 signs values (from + k)
