@@ -2,50 +2,49 @@
 -- product fits, and what the program makes is what document 01 says of the principal. Assumes nothing.
 use mathlib.Core.Path.{_≡_, sym, _∙_, ap, ap₂}
 use mathlib.Core.Bool.{Bool}
-use mathlib.Core.List.{List, [], _∷_, _++_}
+use mathlib.Core.List.{List}
 use Prim.Native.Nat.{ℕ, zero, suc, _*_, _≤_}
 use native.Mathlib.Nat.{mul-le-mul}
 use native.Mathlib.Omega.{arith}
 use borrow.Author.Tests.{ltb-false}
-use lib.Dec.{ltb}
 use lib.IntN.{ℤ}
 use Rattle.refusal.specs.declared.Refusal.{Refusal}
-use Rattle.refusal.specs.declared.Refusal.the-variants.{Rate}
 use Rattle.refusal.specs.declared.Checked.the-variants.{Passed, Refused}
 use Rattle.refusal.specs.Number.{numberOf, blamedOf}
-use Rattle.refusal.specs.Rows.{Said, refuses, Row, row, firstRow, checkOf}
-use Rattle.refusal.proofs.Check.{passed, refused, clear}
+use Rattle.refusal.specs.Rows.{Said, gives, refuses, Row, firstRow, checkOf}
+use Rattle.refusal.proofs.Check.{passed, refused, behind, clear}
 use Rattle.whole.specs.Whole.{negative, magnitudeOf}
 use Rattle.rounding.specs.declared.Rule.{Rule}
 use Rattle.rounding.proofs.Value.{by-magnitude}
 use Rattle.amount.specs.declared.Amount.{Amount}
-use Rattle.amount.specs.Amounts.{largest, amountRows, limited}
+use Rattle.amount.specs.Amounts.{largest, limited}
 use Rattle.interest.specs.declared.Date.{Date}
 use Rattle.interest.specs.DayCount.{basisOf}
-use Rattle.interest.specs.DaysSaid.{daysRows}
+use Rattle.interest.specs.DaysSaid.{daysRows, daysSaid}
 use Rattle.interest.specs.Interest.{lastRate, interestRows, interestOf, interestMade}
-use Rattle.interest.specs.Accrual.{Accrues, accruedTo, interestByRule}
-use Rattle.refusal.proofs.Joined.{front-passed, both-passed}
+use Rattle.interest.specs.Accrual.{rateRows, Accrues, accruedTo, interestByRule}
+use Rattle.refusal.proofs.Joined.{front-refused, same-value, let-pass, same-refused}
 use Rattle.interest.proofs.DaysRows.{Counted, counted}
 
--- the amount's rows stand in front of the rate's and the day count's
-pub at-rate : (scale m currency rate basis : ℕ) (start end : Date) → checkOf (amountRows scale m currency) ≡ Passed
-    → checkOf (interestRows scale m currency rate basis start end) ≡ checkOf (row Rate (ltb lastRate rate) ∷ daysRows basis start end)
-unfolding interestRows
-at-rate scale m currency rate basis start end = front-passed (amountRows scale m currency) (row Rate (ltb lastRate rate) ∷ daysRows basis start end)
+-- what a day count that was given tells: no row of it holds, and it is the basis's
+module _ (basis : ℕ) (start end : Date) (n : ℕ) (told : gives n ≡ daysSaid basis start end) where
+  pub days-passed : checkOf (daysRows basis start end) ≡ Passed
+  unfolding daysSaid
+  days-passed = let-pass (basisOf basis .count start end) n (daysRows basis start end) (sym told)
 
-pub accrues : (scale m currency rate basis : ℕ) (start end : Date) → checkOf (interestRows scale m currency rate basis start end) ≡ Passed
-    → Accrues m rate basis start end
-unfolding interestRows
-accrues scale m currency rate basis start end e =
-    let rows = clear (interestRows scale m currency rate basis start end) e in
-    let front : List Row = amountRows scale m currency ++ (row Rate (ltb lastRate rate) ∷ []) in
-    let days : Counted basis start end = counted basis start end (both-passed front (daysRows basis start end) e .1) in
+  pub days-are : basisOf basis .count start end ≡ n
+  unfolding daysSaid
+  days-are = same-value (basisOf basis .count start end) n (daysRows basis start end) (sym told)
+
+pub accrues : (scale m currency rate basis : ℕ) (start end : Date) (n : ℕ) → checkOf (rateRows scale m currency rate) ≡ Passed
+    → gives n ≡ daysSaid basis start end → Accrues m rate n
+accrues scale m currency rate basis start end n e told =
+    let rows = clear (rateRows scale m currency rate) e in
+    let days : Counted basis start end = counted basis start end (days-passed basis start end n told) in
     record {
       principal = ltb-false largest m (rows .1 .0);
       points = ltb-false lastRate rate (rows .1 .1 .1 .0);
-      dates = days .dates;
-      days = days .count;
+      days = omega (arith, days .count, days-are basis start end n told);
     }
 
 -- the year of every basis is 360 or 365
@@ -55,37 +54,58 @@ year-at-most (suc zero) = omega arith
 year-at-most (suc (suc zero)) = omega arith
 year-at-most (suc (suc (suc n))) = omega arith
 
-module _ {m rate basis : ℕ} {start end : Date} (limits : Accrues m rate basis start end) (days : ℕ) (counts : days ≡ basisOf basis .count start end) where
+module _ {m rate days : ℕ} (limits : Accrues m rate days) where
   pub points-fit : rate * days ≤ lastRate * 366
-  points-fit = let most : days ≤ 366 = omega (arith, limits .days, counts) in mul-le-mul (limits .points) most
+  points-fit = mul-le-mul (limits .points) (limits .days)
 
   pub product-fits : m * (rate * days) ≤ largest * (lastRate * 366)
   product-fits = mul-le-mul (limits .principal) points-fit
 
 -- document 01's interest, by the principal's sign and magnitude
 pub by-parts : (rule : Rule) (n : ℤ) (rate basis : ℕ) (start end : Date)
-    → interestOf rule n rate basis start end ≡ accruedTo rule (negative n) (magnitudeOf n) rate basis start end
+    → interestOf rule n rate basis start end ≡ accruedTo rule (negative n) (magnitudeOf n) rate basis (basisOf basis .count start end)
 unfolding interestOf accruedTo
 by-parts rule n rate basis start end = by-magnitude rule n (rate * basisOf basis .count start end) (10000 * basisOf basis .year)
 
--- the answer behind row 1, from what the check of the rows by the magnitude m has told
+-- the answer behind row 1, from what the check by the magnitude m and the day count have told
 module _ (rule : Rule) (a : Amount) (rate basis : ℕ) (start end : Date) (m : ℕ) (magnitudes : m ≡ magnitudeOf (a .coefficient)) where
   abbrev rows : ℕ → List Row
   rows x = interestRows (a .scale) x (a .currency .0) rate basis start end
 
+  abbrev front : List Row
+  front = rateRows (a .scale) m (a .currency .0) rate
+
   abbrev made : Said Amount
   made = interestMade rule a rate basis start end
 
-  pub said-refused : (r : Refusal) → checkOf (rows m) ≡ Refused r
-      → refuses (numberOf r) (blamedOf r) ≡ interestByRule rule a rate basis start end
-  said-refused r e = sym (refused made (rows m) r e) ∙ ap (λ (x : ℕ). firstRow (rows x) made) magnitudes
+  same-magnitude : firstRow (rows m) made ≡ interestByRule rule a rate basis start end
+  same-magnitude = ap (λ (x : ℕ). firstRow (rows x) made) magnitudes
 
-  pub said-made : (sign : Bool) → sign ≡ negative (a .coefficient) → (n : ℤ) → n ≡ accruedTo rule sign m rate basis start end → checkOf (rows m) ≡ Passed
+  pub said-refused : (r : Refusal) → checkOf front ≡ Refused r
+      → refuses (numberOf r) (blamedOf r) ≡ interestByRule rule a rate basis start end
+  unfolding interestRows
+  said-refused r e = sym (refused made (rows m) r (front-refused front (daysRows basis start end) r e)) ∙ same-magnitude
+
+  behind-rate : checkOf front ≡ Passed → firstRow (daysRows basis start end) made ≡ interestByRule rule a rate basis start end
+  unfolding interestRows
+  behind-rate e =
+      sym (behind made front (daysRows basis start end) ∙ passed (firstRow (daysRows basis start end) made) front e) ∙ same-magnitude
+
+  pub said-no-days : (r : Refusal) → checkOf front ≡ Passed → refuses (numberOf r) (blamedOf r) ≡ daysSaid basis start end
+      → refuses (numberOf r) (blamedOf r) ≡ interestByRule rule a rate basis start end
+  unfolding daysSaid
+  said-no-days r e told =
+      sym (same-refused (basisOf basis .count start end) made (numberOf r) (blamedOf r) (daysRows basis start end) (sym told)) ∙ behind-rate e
+
+  pub said-made : (sign : Bool) → sign ≡ negative (a .coefficient) → (n : ℤ) (days : ℕ) → n ≡ accruedTo rule sign m rate basis days → checkOf front ≡ Passed
+      → gives days ≡ daysSaid basis start end
       → limited n (record { currency = a .currency; scale = a .scale; coefficient = n }) ≡ interestByRule rule a rate basis start end
-  said-made sign signs n is e =
-      let parts : accruedTo rule sign m rate basis start end ≡ accruedTo rule (negative (a .coefficient)) (magnitudeOf (a .coefficient)) rate basis start end =
-      ap₂ (λ (s : Bool) (x : ℕ). accruedTo rule s x rate basis start end) signs magnitudes in
+  said-made sign signs n days is e told =
+      let counts : days ≡ basisOf basis .count start end = sym (days-are basis start end days told) in
+      let parts : accruedTo rule sign m rate basis days ≡ accruedTo rule (negative (a .coefficient)) (magnitudeOf (a .coefficient)) rate basis (basisOf basis .count start end) =
+      ap₂ (λ (s : Bool) (x : ℕ). accruedTo rule s x rate basis days) signs magnitudes
+      ∙ ap (λ (x : ℕ). accruedTo rule (negative (a .coefficient)) (magnitudeOf (a .coefficient)) rate basis x) counts in
       let same : n ≡ interestOf rule (a .coefficient) rate basis start end = is ∙ parts ∙ sym (by-parts rule (a .coefficient) rate basis start end) in
       ap (λ (x : ℤ). limited x (record { currency = a .currency; scale = a .scale; coefficient = x })) same
-      ∙ sym (passed made (rows m) e)
-      ∙ ap (λ (x : ℕ). firstRow (rows x) made) magnitudes
+      ∙ sym (passed made (daysRows basis start end) (days-passed basis start end days told))
+      ∙ behind-rate e

@@ -7,11 +7,11 @@ use lib.Dec.{ltb}
 use borrow.Author.Tests.{ltb-false, le-ltb, not-false}
 use Rattle.refusal.specs.declared.Checked.the-variants.{Passed}
 use Rattle.refusal.specs.declared.Refusal.the-variants.{Days as BadDays}
-use Rattle.refusal.specs.Rows.{row, checkOf}
+use Rattle.refusal.specs.Rows.{gives, row, firstRow, checkOf}
 use Rattle.refusal.proofs.Check.{clear}
 use Rattle.interest.specs.declared.Date.{Date}
 use Rattle.interest.specs.DayCount.{dayOf, basisOf}
-use Rattle.interest.specs.DaysSaid.{InOrder, dateExists, daysRows}
+use Rattle.interest.specs.DaysSaid.{InOrder, dateExists, daysRows, daysSaid}
 
 pub record Counted (basis : ℕ) (start end : Date) : Type 0 where
   pub known : basis ≤ 2
@@ -34,7 +34,7 @@ counted basis start end e =
     }
 
 pub by-count : (basis : ℕ) (start end : Date) → basis ≤ 2 → InOrder start end
-    → checkOf (daysRows basis start end) ≡ checkOf (row BadDays (ltb 366 (basisOf basis .count start end)) ∷ [])
-unfolding daysRows
+    → let n = basisOf basis .count start end in daysSaid basis start end ≡ firstRow (row BadDays (ltb 366 n) ∷ []) (gives n)
+unfolding daysRows daysSaid
 by-count basis start end known dates =
     simp (le-ltb 2 basis known, dates .first, dates .second, le-ltb (dayOf end) (dayOf start) (dates .order))

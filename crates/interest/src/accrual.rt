@@ -1,7 +1,7 @@
 // Simple interest over days: principal x rate x days / (10,000 x year), rounded once.
 use crate::Date;
-use crate::days::check_days;
-use crate::days::count_of;
+use crate::DayCount;
+use crate::days::day_count;
 use crate::days::year_of;
 use amount::Amount;
 use amount::Answer;
@@ -19,61 +19,55 @@ use whole::signed;
 ghost use mathlib.Core.Path.{_≡_};
 ghost use Rattle.refusal.specs.Rows.{checkOf};
 ghost use Rattle.amount.specs.Amounts.{meansAmount};
-ghost use Rattle.interest.specs.Interest.{interestRows, interestSaid};
-ghost use Rattle.interest.specs.Accrual.{Accrues, accruedTo, interestByRule};
+ghost use Rattle.interest.specs.Interest.{interestSaid};
+ghost use Rattle.interest.specs.Accrual.{rateRows, Accrues, accruedTo, interestByRule};
 
 // A whole in basis points, which is also the largest rate.
 const POINTS: u64 = 10_000;
 
-// Rows 2, 3 and 4 at the principal, row 6 at the rate, and the rows of the day count.
-fn check(scale: u8, m: u64, currency: u8, rate: u32, basis: u8, start: Date, end: Date) -> Checked
-    ensures { λ r. ⌜ r ≡ checkOf (interestRows scale m currency rate basis start end) ⌝ }
+// Rows 2, 3 and 4 at the principal, and row 6 at the rate.
+fn check(scale: u8, m: u64, currency: u8, rate: u32) -> Checked
+    ensures { λ r. ⌜ r ≡ checkOf (rateRows scale m currency rate) ⌝ }
 {
     match check_one(scale, m, currency) {
         Checked::Refused(refusal) => Checked::Refused(refusal),
         Checked::Passed => if POINTS < rate as u64 {
             Checked::Refused(Refusal::Rate)
         } else {
-            check_days(basis, start, end)
+            Checked::Passed
         },
     }
 }
 
 // The interest's coefficient, from the principal's sign and magnitude. The product is below 2^63: at most L x 10,000 x 366.
-fn accrued(rule: Rule, negative: bool, m: u64, rate: u32, basis: u8, start: Date, end: Date) -> i64
-    requires { ⌜ Accrues m rate basis start end ⌝ }
-    ensures { λ r. ⌜ r ≡ accruedTo rule negative m rate basis start end ⌝ }
+fn accrued(rule: Rule, negative: bool, m: u64, rate: u32, basis: u8, days: u32) -> i64
+    requires { ⌜ Accrues m rate days ⌝ }
+    ensures { λ r. ⌜ r ≡ accruedTo rule negative m rate basis days ⌝ }
 {
-    let days = count_of(basis, start, end) as u64;
-    let product = m * (rate as u64 * days);
+    let product = m * (rate as u64 * days as u64);
     let rounded = round(rule, negative, product, POINTS * year_of(basis));
     signed(negative, rounded)
 }
 
-// The interest by a rule, or the first of the rows behind row 1 that holds.
+// The interest by a rule, or the first of the rows behind row 1 that holds. The days are counted once.
 fn by_rule(rule: Rule, principal: Amount, rate: u32, basis: u8, start: Date, end: Date) -> Answer
     ensures { λ r. ⌜ meansAmount r ≡ interestByRule rule principal rate basis start end ⌝ }
 {
     let negative = is_negative(principal.coefficient);
     let m = magnitude(principal.coefficient);
-    match check(
-        principal.scale,
-        m,
-        principal.currency.0,
-        rate,
-        basis,
-        start,
-        end,
-    ) {
+    match check(principal.scale, m, principal.currency.0, rate) {
         Checked::Refused(refusal) => Answer::Refused(refusal),
-        Checked::Passed => {
-            let currency = principal.currency;
-            within(Amount {
-                currency: currency,
-                scale: principal.scale,
-                coefficient: accrued(rule, negative, m, rate, basis, start, end),
-            })
-        }
+        Checked::Passed => match day_count(basis, start, end) {
+            DayCount::Refused(refusal) => Answer::Refused(refusal),
+            DayCount::Days(days) => {
+                let currency = principal.currency;
+                within(Amount {
+                    currency: currency,
+                    scale: principal.scale,
+                    coefficient: accrued(rule, negative, m, rate, basis, days),
+                })
+            }
+        },
     }
 }
 

@@ -4,13 +4,12 @@ use crate::DayCount;
 use crate::calendar::date_exists;
 use crate::calendar::day_number;
 use refusal::Blamed;
-use refusal::Checked;
 use refusal::Refusal;
 ghost use mathlib.Core.Path.{_≡_};
 ghost use Prim.Native.Nat.{min};
-ghost use Rattle.refusal.specs.Rows.{checkOf};
 ghost use Rattle.interest.specs.DayCount.{thirty, basisOf};
-ghost use Rattle.interest.specs.DaysSaid.{InOrder, daysRows, meansDays, daysSaid};
+ghost use Rattle.interest.specs.DaysSaid.{InOrder, meansDays, daysSaid};
+ghost use Rattle.interest.specs.Accrual.{Numbered};
 
 fn least(a: u8, b: u8) -> u32
     ensures { λ r. ⌜ r ≡ min a b ⌝ }
@@ -28,14 +27,14 @@ fn thirty_days(start: Date, end: Date) -> u32
     to - from
 }
 
-// The day count of the basis.
-pub(crate) fn count_of(basis: u8, start: Date, end: Date) -> u32
-    requires { ⌜ InOrder start end ⌝ }
+// The day count of the basis, by the day numbers of the two dates.
+fn count_of(basis: u8, start: Date, end: Date, from: u32, to: u32) -> u32
+    requires { ⌜ Numbered start end from to ⌝ }
     ensures { λ r. ⌜ r ≡ basisOf basis .count start end ⌝ }
 {
     match basis {
         2 => thirty_days(start, end),
-        _ => day_number(end) - day_number(start),
+        _ => to - from,
     }
 }
 
@@ -49,34 +48,27 @@ pub(crate) fn year_of(basis: u8) -> u64
     }
 }
 
-// The rows of a day count, in the table's order.
-pub(crate) fn check_days(basis: u8, start: Date, end: Date) -> Checked
-    ensures { λ r. ⌜ r ≡ checkOf (daysRows basis start end) ⌝ }
-{
-    if 2 < basis {
-        return Checked::Refused(Refusal::Rate);
-    }
-    if !date_exists(start) {
-        return Checked::Refused(Refusal::Date(Blamed::First));
-    }
-    if !date_exists(end) {
-        return Checked::Refused(Refusal::Date(Blamed::Second));
-    }
-    if day_number(end) < day_number(start) {
-        return Checked::Refused(Refusal::Days);
-    }
-    if 366 < count_of(basis, start, end) {
-        return Checked::Refused(Refusal::Days);
-    }
-    Checked::Passed
-}
-
-// The days from the start to the end by the basis, or the refusal 6, 7 or 8.
+// The days from the start to the end by the basis, or the refusal 6, 7 or 8: the rows in the table's order.
 pub fn day_count(basis: u8, start: Date, end: Date) -> DayCount
     ensures { λ r. ⌜ meansDays r ≡ daysSaid basis start end ⌝ }
 {
-    match check_days(basis, start, end) {
-        Checked::Refused(refusal) => DayCount::Refused(refusal),
-        Checked::Passed => DayCount::Days(count_of(basis, start, end)),
+    if 2 < basis {
+        return DayCount::Refused(Refusal::Rate);
     }
+    if !date_exists(start) {
+        return DayCount::Refused(Refusal::Date(Blamed::First));
+    }
+    if !date_exists(end) {
+        return DayCount::Refused(Refusal::Date(Blamed::Second));
+    }
+    let from = day_number(start);
+    let to = day_number(end);
+    if to < from {
+        return DayCount::Refused(Refusal::Days);
+    }
+    let days = count_of(basis, start, end, from, to);
+    if 366 < days {
+        return DayCount::Refused(Refusal::Days);
+    }
+    DayCount::Days(days)
 }

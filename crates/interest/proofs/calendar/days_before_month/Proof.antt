@@ -1,7 +1,6 @@
 -- The months before March are those of every year, and behind the February of a leap year stands one day more. Assumes nothing.
-use mathlib.Core.Path.{sym, _∙_, ap}
-use mathlib.Core.Bool.{Bool, cond}
-use Prim.Native.Nat.{_+_, _-_}
+use mathlib.Core.Path.{sym, _∙_}
+use Prim.Native.Nat.{_-_}
 use native.Mathlib.Omega.{arith}
 use borrow.Author.Needs.{needs}
 use Rattle.interest.proofs.Months.{months-rise, year-within, behind-february, before-march, common-year}
