@@ -5,21 +5,21 @@ ghost use mathlib.Core.Path.{_≡_};
 ghost use Prim.Native.Nat.{_<_};
 ghost use Rattle.rounding.specs.Leaf.{restOf, roundedMagnitude};
 
-// The class of the rest of a division by d.
+// The class of the rest of a division by d: of three tests, none, one, two or all hold. No branch depends on the rest.
 fn class(rest: u64, d: u64) -> Rest
     requires { ⌜ rest < d ⌝ }
     ensures { λ r. ⌜ r ≡ restOf rest d ⌝ }
 {
-    if rest == 0 {
-        return Rest::Exact;
+    let some = 0 < rest;
+    let from_half = d - rest <= rest;
+    let past_half = d - rest < rest;
+    let tests = some as u8 + from_half as u8 + past_half as u8;
+    match tests {
+        0 => Rest::Exact,
+        1 => Rest::Below,
+        2 => Rest::Half,
+        _ => Rest::Above,
     }
-    if d - rest < rest {
-        return Rest::Above;
-    }
-    if rest < d - rest {
-        return Rest::Below;
-    }
-    Rest::Half
 }
 
 // The magnitude of n / d under a rule, for a number of the given sign; 0 where d is 0.
