@@ -47,6 +47,11 @@ pastHalf Below = false
 pastHalf Half = false
 pastHalf Above = true
 
+-- a half to the even number: an odd quotient rises from the half on, an even one past it
+abbrev pub toEven : (odd : Bool) → Rest → Bool
+toEven true rest = fromHalf rest
+toEven false rest = pastHalf rest
+
 -- does the magnitude rise by one: from the rule, whether the number is negative, whether the quotient is odd, and the rest
 abbrev pub risesBy : Rule → (negative odd : Bool) → Rest → Bool
 risesBy Up negative odd rest = someRest rest
@@ -55,4 +60,4 @@ risesBy Ceiling negative odd rest = not negative && someRest rest
 risesBy Floor negative odd rest = negative && someRest rest
 risesBy HalfUp negative odd rest = fromHalf rest
 risesBy HalfDown negative odd rest = pastHalf rest
-risesBy HalfEven negative odd rest = cond odd (fromHalf rest) (pastHalf rest)
+risesBy HalfEven negative odd rest = toEven odd rest

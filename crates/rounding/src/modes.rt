@@ -4,7 +4,7 @@ use crate::Rest;
 use crate::Rule;
 use refusal::Refusal;
 ghost use mathlib.Core.Path.{_≡_};
-ghost use Rattle.rounding.specs.Modes.{choiceOf, someRest, fromHalf, pastHalf, risesBy};
+ghost use Rattle.rounding.specs.Modes.{choiceOf, someRest, fromHalf, pastHalf, toEven, risesBy};
 
 // The rule of a mode number, and refusal 1 for every other number.
 pub fn rule_of(mode: u8) -> Choice
@@ -55,6 +55,14 @@ fn past_half(rest: Rest) -> bool
     }
 }
 
+// To the nearest, a half to the even number: an odd quotient rises from the half on, an even one past it. No branch depends on the
+// parity.
+fn to_even(odd: bool, rest: Rest) -> bool
+    ensures { λ r. ⌜ r ≡ toEven odd rest ⌝ }
+{
+    past_half(rest) | (odd & from_half(rest))
+}
+
 // Does the magnitude rise by one: from the rule, the number's sign, whether the quotient is odd, and the rest.
 pub fn rises(rule: Rule, negative: bool, odd: bool, rest: Rest) -> bool
     ensures { λ r. ⌜ r ≡ risesBy rule negative odd rest ⌝ }
@@ -66,10 +74,6 @@ pub fn rises(rule: Rule, negative: bool, odd: bool, rest: Rest) -> bool
         Rule::Floor => negative && some_rest(rest),
         Rule::HalfUp => from_half(rest),
         Rule::HalfDown => past_half(rest),
-        Rule::HalfEven => if odd {
-            from_half(rest)
-        } else {
-            past_half(rest)
-        },
+        Rule::HalfEven => to_even(odd, rest),
     }
 }
