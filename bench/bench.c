@@ -79,6 +79,57 @@ static void posts(int unit)
             }
 }
 
+/* the time of a call where the cycle's making is left out: that of a long run less that of one half as long */
+static double by_call(void (*pass)(void), double *making)
+{
+    double half, whole;
+    set_calls(CALLS / 2);
+    half = timed(pass, 8);
+    set_calls(CALLS);
+    whole = timed(pass, 4);
+    *making = 2 * half - whole;
+    return (whole - half) / (CALLS / 2);
+}
+
+/* a row for a call of a run, and one for the making of a long cycle; the median time of a call */
+static double run_rows(const char *name, int is_long)
+{
+    set_calls(CALLS);
+    if (!run_agrees()) {
+        fprintf(stderr, "bench: the answers differ: %s\n", name);
+        exit(1);
+    }
+    double a[RUNS], b[RUNS], ratio[RUNS], made[RUNS], plain_made[RUNS];
+    for (int i = 0; i < RUNS; i++) {
+        a[i] = by_call(run_ours, &made[i]);
+        b[i] = by_call(run_plain, &plain_made[i]);
+        ratio[i] = a[i] / b[i];
+    }
+    double call = median(a), cycle = median(made), plain_cycle = median(plain_made);
+    printf("%-52s %12.1f %12.1f %9.2f\n", name, 1e9 * call, 1e9 * median(b), median(ratio));
+    if (is_long)
+        printf("%-52s %12.1f %12.1f %9.2f\n", "  its cycle, once for a run", 1e9 * cycle, 1e9 * plain_cycle, cycle / plain_cycle);
+    fflush(stdout);
+    return call;
+}
+
+static void runs(void)
+{
+    static const int partners[] = {2, 4, 16};
+    for (int j = 0; j < 3; j++)
+        for (int skewed = 0; skewed < 2; skewed++) {
+            double time[2];
+            for (int i = 0; i < 2; i++) {
+                uint32_t W = i ? 10000 : 10;
+                char name[80];
+                snprintf(name, sizeof name, "run, W = %" PRIu32 ", %d partners, %s; a call", W, partners[j], skewed ? "skewed" : "random");
+                set_book(W, partners[j], skewed, 0);
+                time[i] = run_rows(name, i);
+            }
+            printf("%-52s %12s %12s %9.2f\n", "  W = 10,000 over W = 10", "", "", time[1] / time[0]);
+        }
+}
+
 int main(int argc, char **argv)
 {
     draw_inputs();
@@ -96,5 +147,6 @@ int main(int argc, char **argv)
     row("share 64", LISTS, share_agrees, share_ours, share_plain);
     posts(0);
     posts(1);
+    runs();
     return 0;
 }

@@ -9,6 +9,7 @@
 #define AMOUNTS 1024
 #define LISTS 256
 #define POSTINGS 256
+#define CALLS 32768
 
 typedef struct {
     uint8_t mode;
@@ -38,6 +39,9 @@ extern exchange exchanges[AMOUNTS];
 extern loan loans[AMOUNTS];
 extern list lists[LISTS];
 extern mkb_amount postings[POSTINGS];
+/* a run's movements: one in four is a refund */
+extern uint8_t kinds[CALLS];
+extern int64_t coefficients[CALLS];
 
 void draw_inputs(void);
 

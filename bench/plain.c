@@ -271,3 +271,62 @@ int plain_post(plain_book *book, int64_t amount, uint64_t payouts[16], int by_un
     book->net += amount;
     return 0;
 }
+
+/* row n: bit i is 1 where place i has one more than n x w / W rounded down */
+static void cycle_of(const uint32_t weights[16], uint32_t W, uint16_t *table)
+{
+    uint32_t held[16] = {0}, due[16];
+    for (int i = 0; i < 16; i++)
+        due[i] = weights[i] ? (W + weights[i] - 1) / weights[i] : UINT32_MAX;
+    for (uint32_t n = 0; n < W; n++) {
+        uint32_t row = 0, least = UINT32_MAX;
+        int best = 0;
+        for (int i = 0; i < 16; i++) {
+            row |= (uint32_t)(n * weights[i] < held[i] * W) << i;
+            if (held[i] * W < (n + 1) * weights[i] && due[i] < least) {
+                least = due[i];
+                best = i;
+            }
+        }
+        table[n] = (uint16_t)row;
+        held[best]++;
+        due[best] = ((held[best] + 1) * W + weights[best] - 1) / weights[best];
+    }
+}
+
+static void totals_by_cycle(const uint32_t weights[16], uint32_t W, const uint16_t *table, uint64_t n, uint64_t totals[16])
+{
+    uint64_t cycles = n / W;
+    uint32_t left = (uint32_t)(n % W), row = table[left];
+    for (int i = 0; i < 16; i++)
+        totals[i] = cycles * weights[i] + left * weights[i] / W + (row >> i & 1);
+}
+
+void plain_run(plain_book *book, const uint8_t *kinds, const int64_t *coefficients, size_t calls, uint64_t *payouts, uint8_t *numbers)
+{
+    uint16_t table[10000];
+    uint64_t held[16], next[16];
+    uint32_t W = 0;
+    for (int i = 0; i < 16; i++)
+        W += book->weights[i];
+    cycle_of(book->weights, W, table);
+    totals_by_cycle(book->weights, W, table, (uint64_t)book->net, held);
+    for (size_t j = 0; j < calls; j++, payouts += 16) {
+        int64_t c = coefficients[j];
+        int refund = kinds[j] != 0;
+        numbers[j] = c > (int64_t)PLAIN_L || c < -(int64_t)PLAIN_L ? 3
+                     : c < 0                                       ? 10
+                     : refund                                      ? (c > book->net ? 12 : 0)
+                                                                   : (book->net + c > (int64_t)PLAIN_L ? 13 : 0);
+        if (numbers[j]) {
+            memset(payouts, 0, 16 * sizeof *payouts);
+            continue;
+        }
+        book->net += refund ? -c : c;
+        totals_by_cycle(book->weights, W, table, (uint64_t)book->net, next);
+        for (int i = 0; i < 16; i++) {
+            payouts[i] = refund ? held[i] - next[i] : next[i] - held[i];
+            held[i] = next[i];
+        }
+    }
+}

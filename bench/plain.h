@@ -26,4 +26,7 @@ void plain_totals_by_share(const uint32_t weights[16], uint64_t n, uint64_t tota
 
 /* one posting; `by_unit` chooses the form */
 int plain_post(plain_book *book, int64_t amount, uint64_t payouts[16], int by_unit);
+
+/* a run of movements by a table of one cycle, a mask of who is ahead for each net total below W */
+void plain_run(plain_book *book, const uint8_t *kinds, const int64_t *coefficients, size_t calls, uint64_t *payouts, uint8_t *numbers);
 #endif

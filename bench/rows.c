@@ -6,11 +6,14 @@
 uint64_t sink;
 static uint8_t one_mode;
 static int mixed, by_unit;
-static size_t count;
+static size_t count, calls;
+static uint64_t paid[2][16 * CALLS];
+static uint8_t numbers[2][CALLS];
 static mkb_book opened;
 
 void set_modes(int all) { mixed = all, one_mode = MKB_HALF_EVEN; }
 void set_count(size_t n) { count = n; }
+void set_calls(size_t n) { calls = n; }
 
 void set_book(uint32_t W, int partners, int skewed, int unit)
 {
@@ -168,4 +171,25 @@ int post_agrees(void)
         b = r.book;
     }
     return ok;
+}
+
+static mkb_ran by_run(void) { return mkb_run(opened, kinds, calls, coefficients, calls, paid[0], 16 * calls, numbers[0], calls); }
+
+static plain_book by_plain_run(void)
+{
+    plain_book b = plain_opened();
+    plain_run(&b, kinds, coefficients, calls, paid[1], numbers[1]);
+    return b;
+}
+
+void run_ours(void) { sink += (uint64_t)by_run().book.net; }
+
+void run_plain(void) { sink += (uint64_t)by_plain_run().net; }
+
+int run_agrees(void)
+{
+    mkb_ran r = by_run();
+    plain_book p = by_plain_run();
+    return !r.refusal && r.served == calls && r.book.net == p.net && !memcmp(paid[0], paid[1], 16 * calls * sizeof **paid)
+           && !memcmp(numbers[0], numbers[1], calls);
 }

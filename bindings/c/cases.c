@@ -263,6 +263,32 @@ static void refusals(void)
     tell(ok, "no totals of any values");
 }
 
+/* the history in one run, with a refused call in it and one behind it; the places past the run stay */
+static void runs(void)
+{
+    static const uint8_t kinds[5] = {MKB_POSTING, MKB_POSTING, MKB_REFUNDING, MKB_REFUNDING, MKB_POSTING};
+    static const int64_t coefficients[5] = {7, 5, 3, 10, MKB_L};
+    static const uint64_t paid[5][3] = {{4, 2, 1}, {2, 2, 1}, {1, 1, 1}, {0, 0, 0}, {0, 0, 0}};
+    static const uint8_t said[6] = {0, 0, 0, MKB_REFUND, MKB_LIMIT, 77};
+    uint64_t payouts[6 * MKB_PARTNERS], stood[6 * MKB_PARTNERS];
+    uint8_t numbers[6];
+    memset(stood, 77, sizeof stood);
+    memcpy(payouts, stood, sizeof payouts);
+    memset(numbers, 77, sizeof numbers);
+    mkb_book given = book(0), last = book(9);
+    mkb_ran r = mkb_run(given, kinds, 5, coefficients, 4, payouts, 5 * MKB_PARTNERS, numbers, 5);
+    tell(r.refusal == MKB_ROOM && !r.served && same_book(&r.book, &given) && !memcmp(payouts, stood, sizeof stood) && numbers[0] == 77, "unequal lists");
+    r = mkb_run(given, kinds, 5, coefficients, 5, payouts, 5 * MKB_PARTNERS - 1, numbers, 5);
+    tell(r.refusal == MKB_ROOM && !r.served && same_book(&r.book, &given) && !memcmp(payouts, stood, sizeof stood) && numbers[0] == 77, "one place short");
+    r = mkb_run(given, kinds, 5, coefficients, 5, payouts, 6 * MKB_PARTNERS, numbers, 6);
+    tell(!r.refusal && !r.blamed && r.served == 5 && same_book(&r.book, &last) && !memcmp(numbers, said, sizeof said), "a run of five");
+    for (int call = 0; call < 5; call++) {
+        uint64_t places[MKB_PARTNERS] = {paid[call][0], paid[call][1], paid[call][2]};
+        tell(!memcmp(payouts + call * MKB_PARTNERS, places, sizeof places), "a call's payouts");
+    }
+    tell(!memcmp(payouts + 5 * MKB_PARTNERS, stood, MKB_PARTNERS * sizeof *stood), "the places past the run");
+}
+
 int main(void)
 {
     modes();
@@ -275,6 +301,7 @@ int main(void)
     opening();
     history();
     refusals();
+    runs();
     if (failed) {
         printf("c face: %d cases passed, %d failed\n", passed, failed);
         return 1;

@@ -17,3 +17,4 @@ SIZE(mkb_split, 56); AT(mkb_split, blamed, 1); AT(mkb_split, net, 8); AT(mkb_spl
 SIZE(mkb_opened, 88); AT(mkb_opened, blamed, 1); AT(mkb_opened, book, 8);
 SIZE(mkb_moved, 216); AT(mkb_moved, blamed, 1); AT(mkb_moved, book, 8); AT(mkb_moved, payouts, 88);
 SIZE(mkb_totals, 136); AT(mkb_totals, blamed, 1); AT(mkb_totals, totals, 8);
+SIZE(mkb_ran, 96); AT(mkb_ran, blamed, 1); AT(mkb_ran, book, 8); AT(mkb_ran, served, 88);

@@ -42,6 +42,9 @@ enum mkb_mode { MKB_UP, MKB_DOWN, MKB_CEILING, MKB_FLOOR, MKB_HALF_UP, MKB_HALF_
 /* actual days / 360, actual days / 365, 30/360 */
 enum mkb_basis { MKB_ACTUAL_360, MKB_ACTUAL_365, MKB_30_360 };
 
+/* the kinds of a run's movements; any number but 0 is a refund */
+enum mkb_kind { MKB_POSTING, MKB_REFUNDING };
+
 /* the largest magnitude of a coefficient, the places of a book, the largest sum of a book's weights */
 #define MKB_L INT64_C(99999999999)
 #define MKB_PARTNERS 16
@@ -112,6 +115,13 @@ typedef struct {
     uint64_t totals[MKB_PARTNERS];
 } mkb_totals;
 
+typedef struct {
+    uint8_t refusal, blamed;
+    mkb_book book;
+    uint64_t served;
+} mkb_ran;
+
+
 /* n / d rounded by the mode: refusals 1, 3, 6 */
 mkb_whole mkb_round(uint8_t mode, int64_t n, uint64_t d);
 
@@ -153,6 +163,11 @@ mkb_moved mkb_post(mkb_book book, mkb_amount a);
 mkb_moved mkb_refund(mkb_book book, mkb_amount a);
 /* each partner's running total at the book's net total: refusals 3, 4, 9, 10 */
 mkb_totals mkb_running_totals(mkb_book book);
+/* the movements in turn, each as mkb_post or mkb_refund of its coefficient in the book's currency at its own digits: call j's payouts at the
+ * sixteen places from 16 x j on, its refusal number (0: accepted) at place j; the last book and the calls served. Refusal 11, and nothing is
+ * written, where the lists' lengths differ or there is too little room */
+mkb_ran mkb_run(mkb_book book, const uint8_t *kinds, size_t calls, const int64_t *coefficients, size_t count, uint64_t *payouts, size_t payouts_room,
+                uint8_t *numbers, size_t numbers_room);
 
 #ifdef __cplusplus
 }

@@ -192,6 +192,14 @@ class Moved(NamedTuple):
     payouts: tuple
 
 
+class Ran(NamedTuple):
+    """The book after a run of movements; each call's payouts, zeros where it is refused; and its refusal number, 0 where it is accepted."""
+
+    book: "Book"
+    payouts: tuple
+    numbers: tuple
+
+
 @dataclass(frozen=True)
 class Book:
     """A share book: a currency, the weights of its partners and its net total. Each call answers with the next book."""
@@ -232,3 +240,13 @@ class Book:
     def running_totals(self):
         """Each partner's running total at the net total: refusals 3, 4, 9, 10."""
         return tuple(_accepted(_library.mkb_running_totals(self._c())).totals[: len(self.weights)])
+
+    def run(self, kinds, coefficients):
+        """Posts (kind 0) or refunds (any other) each coefficient in turn, as `post` and `refund` would: refusal 11 for lists of unequal length."""
+        kinds, calls = _list(c_uint8, kinds)
+        coefficients, count = _list(c_int64, coefficients)
+        payouts, numbers = (c_uint64 * (PARTNERS * calls + 1))(), (c_uint8 * (calls + 1))()
+        answer = _library.mkb_run(self._c(), kinds, calls, coefficients, count, payouts, PARTNERS * calls, numbers, calls)
+        last = Book._of(_accepted(answer).book)
+        paid = (payouts[PARTNERS * call : PARTNERS * call + len(self.weights)] for call in range(calls))
+        return Ran(last, tuple(tuple(places) for places in paid), tuple(numbers[:calls]))

@@ -36,6 +36,14 @@ CSplit = _answer("CSplit", ("net", CAmount), ("tax", CAmount), ("gross", CAmount
 COpened = _answer("COpened", ("book", CBook))
 CMoved = _answer("CMoved", ("book", CBook), ("payouts", c_uint64 * PARTNERS))
 CTotals = _answer("CTotals", ("totals", c_uint64 * PARTNERS))
+CRan = _answer("CRan", ("book", CBook), ("served", c_uint64))
+
+
+
+def _lent(kind):
+    """A list that is lent: where it starts, and its length."""
+    return POINTER(kind), c_size_t
+
 
 # each function's answer and parameters, as in morskebab.h
 FUNCTIONS = {
@@ -56,6 +64,7 @@ FUNCTIONS = {
     "mkb_post": (CMoved, CBook, CAmount),
     "mkb_refund": (CMoved, CBook, CAmount),
     "mkb_running_totals": (CTotals, CBook),
+    "mkb_run": (CRan, CBook, *_lent(c_uint8), *_lent(c_int64), *_lent(c_uint64), *_lent(c_uint8)),
 }
 
 

@@ -4,7 +4,7 @@ import doctest
 import morskebab
 from morskebab import (
     DEM, EUR, FRF, IEP, ITL, CEILING, DOWN, FLOOR, HALF_DOWN, HALF_EVEN, HALF_UP, UP, L,
-    Amount, Book, Date, Moved, Refused, Split, currency_line, day_count, plain_quotient,
+    Amount, Book, Date, Moved, Ran, Refused, Split, currency_line, day_count, plain_quotient,
 )
 
 passed = 0
@@ -142,6 +142,11 @@ def books():
     refused(4, lambda: Book.open(21, []))
     refused(10, lambda: Book(EUR, (5, 3, 2), -1).running_totals())
     overflows(lambda: Book(EUR, (1,) * 17, 0).running_totals())
+    none = (0, 0, 0)
+    ran = Book.open(EUR, [5, 3, 2]).run([0, 0, 1, 1, 0], [7, 5, 3, 10, L])
+    same(ran, Ran(Book(EUR, (5, 3, 2), 9), ((4, 2, 1), (2, 2, 1), (1, 1, 1), none, none), (0, 0, 0, 12, 13)))
+    same(book.run([], []), Ran(book, (), ()))
+    refused(11, lambda: book.run([0, 1], [1]))
 
 
 for part in (modes, amounts, euro_steps, days, prices, shares, books):

@@ -59,4 +59,15 @@ impl Book {
         let r = unsafe { ffi::mkb_running_totals(self.into()) };
         Refusal::or(r.refusal, r.blamed, r.totals)
     }
+
+    /// Posts (kind 0) or refunds (any other) each coefficient in turn, as `post` and `refund` would, and answers with the last book. Call j's
+    /// payouts go to place j, zeros where it is refused, and so does its refusal number, 0 where it is accepted; places past the run stay.
+    /// Refusal 11, with nothing written, where the lists' lengths differ or there is too little room.
+    pub fn run(self, kinds: &[u8], coefficients: &[i64], payouts: &mut [[u64; 16]], numbers: &mut [u8]) -> Result<Book, Refusal> {
+        let (paid, room) = (payouts.as_mut_ptr().cast(), 16 * payouts.len());
+        let (said, places) = (numbers.as_mut_ptr(), numbers.len());
+        let (first, count) = (coefficients.as_ptr(), coefficients.len());
+        let r = unsafe { ffi::mkb_run(self.into(), kinds.as_ptr(), kinds.len(), first, count, paid, room, said, places) };
+        Refusal::or(r.refusal, r.blamed, r.book.into())
+    }
 }

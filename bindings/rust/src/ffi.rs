@@ -92,6 +92,14 @@ pub struct Totals {
     pub totals: [u64; 16],
 }
 
+#[repr(C)]
+pub struct Ran {
+    pub refusal: u8,
+    pub blamed: u8,
+    pub book: Book,
+    pub served: u64,
+}
+
 extern "C" {
     pub fn mkb_round(mode: u8, n: i64, d: u64) -> Whole;
     pub fn mkb_currency(currency: u8) -> Line;
@@ -110,4 +118,15 @@ extern "C" {
     pub fn mkb_post(book: Book, a: Amount) -> Moved;
     pub fn mkb_refund(book: Book, a: Amount) -> Moved;
     pub fn mkb_running_totals(book: Book) -> Totals;
+    pub fn mkb_run(
+        book: Book,
+        kinds: *const u8,
+        calls: usize,
+        coefficients: *const i64,
+        count: usize,
+        payouts: *mut u64,
+        payouts_room: usize,
+        numbers: *mut u8,
+        numbers_room: usize,
+    ) -> Ran;
 }

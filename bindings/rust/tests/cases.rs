@@ -134,3 +134,14 @@ fn share_book() {
     assert_eq!(Book::open(EUR, &[10_000, 1]), Err(Refusal::Weights));
     assert_eq!(Book::open(Currency(21), &[]), Err(Refusal::Unknown));
 }
+
+#[test]
+fn run_of_calls() {
+    let (mut paid, mut numbers) = ([[9; 16]; 6], [9; 6]);
+    let last = at(0).run(&[0, 0, 1, 1, 0], &[7, 5, 3, 10, Amount::L], &mut paid, &mut numbers);
+    assert_eq!(last, Ok(at(9)));
+    assert_eq!(paid.map(|p| [p[0], p[1], p[2], p[3]]), [[4, 2, 1, 0], [2, 2, 1, 0], [1, 1, 1, 0], [0; 4], [0; 4], [9; 4]]);
+    assert_eq!(numbers, [0, 0, 0, 12, 13, 9]);
+    assert_eq!(at(9).run(&[0; 6], &[1; 6], &mut paid[..5], &mut numbers), Err(Refusal::Room));
+    assert_eq!(numbers, [0, 0, 0, 12, 13, 9]);
+}

@@ -3,6 +3,8 @@
 use mathlib.Core.Path.{_≡_, refl, _∙_, ap}
 use mathlib.Core.List.{List}
 use Prim.Native.Nat.{ℕ}
+use lib.IntN.{ℤ}
+use lib.ListN.{length}
 use Rattle.refusal.specs.Rows.{Said, meansOutcome}
 use Rattle.refusal.specs.declared.Checked.{Checked}
 use Rattle.refusal.specs.declared.Checked.the-variants.{Passed, Refused}
@@ -12,8 +14,10 @@ use Rattle.book.specs.declared.Opened.{Opened}
 use Rattle.book.specs.declared.Moved.{Moved}
 use Rattle.book.specs.declared.Totals.{Totals}
 use Rattle.book.specs.Moves.{Answers, openSaid, Opens, totalsSaid, Runs}
+use Rattle.bulk.specs.declared.Ran.{Ran}
+use Rattle.bulk.specs.Runs.{bookAfter, runSaid, Serves}
 use Rattle.morskebab.specs.Answers.{refusalOf, blamedOf}
-use Rattle.morskebab.specs.Books.{numberIn, blamedIn, bookOf, openedOf, movedOf, runningOf, openedFlat, movedFlat, totalsFlat}
+use Rattle.morskebab.specs.Books.{numberIn, blamedIn, bookOf, openedOf, movedOf, runningOf, ranOf, openedFlat, movedFlat, totalsFlat, ranFlat}
 
 number-of : {A : Type 0} (o : Checked) (value : A) → numberIn o ≡ refusalOf (meansOutcome o value)
 number-of Passed value = refl
@@ -46,3 +50,13 @@ pub ran : (b : Book) (r : Totals) → Runs b r → totalsFlat r ≡ runningOf (t
 ran b r p =
     let number = said-number (r .outcome) (r .totals) (totalsSaid b) (p .outcome) in
     let blamed = said-blamed (r .outcome) (r .totals) (totalsSaid b) (p .outcome) in λ i. record { refusal = number i; blamed = blamed i; totals = p .totals i }
+
+pub served : (b : Book) (kinds : List ℕ) (coefficients : List ℤ) (payouts numbers payouts′ numbers′ : List ℕ) (r : Ran)
+    → Serves b kinds coefficients payouts numbers r payouts′ numbers′
+    → ranFlat r ≡ ranOf b kinds coefficients (runSaid (length kinds) (length coefficients) (length payouts) (length numbers))
+served b kinds coefficients payouts numbers payouts′ numbers′ r p =
+    let said : Said ℕ = runSaid (length kinds) (length coefficients) (length payouts) (length numbers) in
+    let number = said-number (r .outcome) (r .served) said (p .outcome) in
+    let blamed = said-blamed (r .outcome) (r .served) said (p .outcome) in
+    let book = ap bookOf (p .book ∙ ap (bookAfter b kinds coefficients) (p .served)) in
+    λ i. record { refusal = number i; blamed = blamed i; book = book i; served = p .served i }

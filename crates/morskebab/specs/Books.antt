@@ -2,6 +2,7 @@
 -- hands the given book back with sixteen noughts. Cited by the promises on the book. Assumes nothing.
 use mathlib.Core.List.{List}
 use Prim.Native.Nat.{ℕ}
+use lib.IntN.{ℤ}
 use Rattle.refusal.specs.Number.{numberOf, blamedOf as dateOf}
 use Rattle.refusal.specs.Rows.{Said}
 use Rattle.refusal.specs.declared.Checked.{Checked}
@@ -11,10 +12,13 @@ use Rattle.book.specs.declared.Opened.{Opened}
 use Rattle.book.specs.declared.Moved.{Moved}
 use Rattle.book.specs.declared.Totals.{Totals}
 use Rattle.book.specs.Moves.{nextBook, openedBook, totalsOf}
+use Rattle.bulk.specs.declared.Ran.{Ran}
+use Rattle.bulk.specs.Runs.{bookAfter, servedOf}
 use Rattle.morskebab.specs.declared.MkbBook.{MkbBook}
 use Rattle.morskebab.specs.declared.MkbOpened.{MkbOpened}
 use Rattle.morskebab.specs.declared.MkbMoved.{MkbMoved}
 use Rattle.morskebab.specs.declared.MkbTotals.{MkbTotals}
+use Rattle.morskebab.specs.declared.MkbRan.{MkbRan}
 use Rattle.morskebab.specs.Answers.{refusalOf, blamedOf}
 
 -- a book, field for field
@@ -34,6 +38,16 @@ movedOf payouts b said =
 abbrev pub runningOf : Said (List ℕ) → MkbTotals
 runningOf said = record { refusal = refusalOf said; blamed = blamedOf said; totals = totalsOf said }
 
+-- a run of movements on a book, by what it says of the lists
+abbrev pub ranOf : Book → (kinds : List ℕ) (coefficients : List ℤ) → Said ℕ → MkbRan
+ranOf b kinds coefficients said =
+    record {
+      refusal = refusalOf said;
+      blamed = blamedOf said;
+      book = bookOf (bookAfter b kinds coefficients (servedOf said));
+      served = servedOf said;
+    }
+
 -- the same of an outcome that the base answers with, and of the structs that hold one
 abbrev pub numberIn : Checked → ℕ
 numberIn Passed = 0
@@ -52,3 +66,7 @@ movedFlat m =
 
 abbrev pub totalsFlat : Totals → MkbTotals
 totalsFlat t = record { refusal = numberIn (t .outcome); blamed = blamedIn (t .outcome); totals = t .totals }
+
+abbrev pub ranFlat : Ran → MkbRan
+ranFlat r =
+    record { refusal = numberIn (r .outcome); blamed = blamedIn (r .outcome); book = bookOf (r .book); served = r .served }

@@ -7,6 +7,7 @@ mod books;
 mod days;
 mod given;
 mod prices;
+mod runs;
 mod shares;
 
 // Its worth is coefficient / 10^scale.
@@ -99,4 +100,13 @@ pub struct MkbTotals {
     pub refusal: u8,
     pub blamed: u8,
     pub totals: [u64; 16],
+}
+
+// The book after a run of calls, and how many were served.
+#[repr(C)]
+pub struct MkbRan {
+    pub refusal: u8,
+    pub blamed: u8,
+    pub book: MkbBook,
+    pub served: u64,
 }

@@ -2,6 +2,7 @@
 use crate::MkbBook;
 use crate::MkbMoved;
 use crate::MkbOpened;
+use crate::MkbRan;
 use crate::MkbTotals;
 use crate::answers::outcomes::flat_blamed;
 use crate::answers::outcomes::flat_number;
@@ -9,8 +10,9 @@ use book::Book;
 use book::Moved;
 use book::Opened;
 use book::Totals;
+use bulk::Ran;
 ghost use mathlib.Core.Path.{_≡_};
-ghost use Rattle.morskebab.specs.Books.{bookOf, openedFlat, movedFlat, totalsFlat};
+ghost use Rattle.morskebab.specs.Books.{bookOf, openedFlat, movedFlat, totalsFlat, ranFlat};
 
 fn flat_book(book: Book) -> MkbBook
     ensures { λ r. ⌜ r ≡ bookOf book ⌝ }
@@ -57,5 +59,17 @@ pub(crate) fn flat_totals(answer: Totals) -> MkbTotals
         refusal: flat_number(outcome),
         blamed: flat_blamed(outcome),
         totals,
+    }
+}
+
+pub(crate) fn flat_ran(answer: Ran) -> MkbRan
+    ensures { λ r. ⌜ r ≡ ranFlat answer ⌝ }
+{
+    let outcome = answer.outcome;
+    MkbRan {
+        refusal: flat_number(outcome),
+        blamed: flat_blamed(outcome),
+        book: flat_book(answer.book),
+        served: answer.served as u64,
     }
 }

@@ -1,0 +1,5 @@
+pub mod Runs
+pub mod Serving
+pub mod Left
+pub mod Paid
+pub mod Cycle
