@@ -11,9 +11,10 @@ use intake::next_line;
 use libc::STDOUT_FILENO;
 use lines::put_bytes;
 ghost use mathlib.Core.Path.{_≡_};
-ghost use Prim.Native.Nat.{_≤_};
+ghost use Prim.Native.Nat.{_+_, _≤_, _<_};
 ghost use lib.ListN.{length};
 ghost use Rattle.intake.specs.Bounds.{Within};
+ghost use Rattle.intake.specs.Cuts.{longest};
 ghost use Rattle.desk.specs.Desks.{Stands};
 
 // More bytes than an answer has: the longest is a comment of 4,000.
@@ -34,8 +35,9 @@ pub struct Desk {
     pub open: bool,
 }
 
-// Reads once: how many bytes came, none at the end of the input or where reading fails.
+// Reads once, where there is room: how many bytes came, none at the end of the input or where reading fails.
 fn read_some(fd: i32, part: &mut [u8]) -> usize
+    requires { ⌜ 0 < length (now part) ⌝ }
     ensures { λ r. ⌜ r ≤ length (now (part .exit)) ⌝ }
 {
     let got = libc::read(fd, part);
@@ -76,6 +78,7 @@ fn written(mut desk: Desk, out: &[u8]) -> Desk
 // With the bytes that are not read yet moved to the front, and more behind them.
 fn refilled(fd: i32, mut desk: Desk, text: &mut [u8]) -> Desk
     requires { ⌜ Stands desk (length (now text)) ⌝ }
+    requires { ⌜ desk .held ≤ desk .intake .from + (longest + 1) ⌝ }
     ensures { λ r. ⌜ Stands r (length (now (text .exit))) ⌝ }
 {
     let kept = keep(text, desk.intake.from, desk.held);
@@ -186,7 +189,9 @@ fn run(
     values: &mut [u64],
     weights: &mut [u32],
     out: &mut [u8],
-) {
+)
+    requires { ⌜ longest + 1 < length (now text) ⌝ }
+{
     let intake = Intake {
         from: 0,
         skipping: false,

@@ -1,7 +1,11 @@
 mod Choices
 mod Stops
 mod Ways
-mod Stores
-mod Moves
+mod Kept
 mod Weights
+mod Beyond
+pub mod Fills
+pub mod Words
+pub mod Readings
 pub mod Inside
+pub mod Unique

@@ -6,7 +6,7 @@ use Prim.Native.Nat.{ℕ, _+_, _≤_, _<_}
 use borrow.Author.Tests.{lt-ltb, le-ltb}
 use lib.ListN.{length}
 use Rattle.lines.specs.Lines.{lineEnd}
-use Rattle.intake.specs.Cuts.{lineOf, lastOf, unendedOf, cutOf}
+use Rattle.intake.specs.Cuts.{lineOf, lastOf, unendedOf, cutFrom}
 use Rattle.intake.specs.declared.Intake.{Intake}
 use Rattle.intake.specs.declared.Cut.{Cut}
 use Rattle.intake.specs.declared.Found.the-variants.{Nothing}
@@ -27,15 +27,15 @@ module _ (text : List ℕ) (at : Intake) where
   no-line e h = rw (e, le-ltb (at .from) (length text) h)
 
   pub with-newline
-      : (end : ℕ) → end ≡ lineEnd text (at .from) → end < length text → lineOf text at end (end + 1) ≡ cutOf text at
-  unfolding cutOf
+      : (end : ℕ) → end ≡ lineEnd text (at .from) → end < length text → lineOf text at end (end + 1) ≡ cutFrom text at
+  unfolding cutFrom
   with-newline end e h = rw (← e, lt-ltb end (length text) h)
 
   module _ (end : ℕ) (e : end ≡ lineEnd text (at .from)) (h : length text ≤ end) where
-    pub at-the-end : at .ended ≡ true → lastOf text at ≡ cutOf text at
-    unfolding cutOf
+    pub at-the-end : at .ended ≡ true → lastOf text at ≡ cutFrom text at
+    unfolding cutFrom
     at-the-end f = rw (← e, le-ltb end (length text) h, f)
 
-    pub not-ended : at .ended ≡ false → unendedOf at (length text) ≡ cutOf text at
-    unfolding cutOf
+    pub not-ended : at .ended ≡ false → unendedOf at (length text) ≡ cutFrom text at
+    unfolding cutFrom
     not-ended f = rw (← e, le-ltb end (length text) h, f)

@@ -1,43 +1,54 @@
--- Weights written one by one. Assumes nothing.
+-- Weights written one by one: the list is filled with as many as were written, and the next is read as many places on. Assumes nothing.
 use mathlib.Core.Path.{_≡_, _∙_, ap}
 use mathlib.Core.Bool.{Bool}
 use mathlib.Core.List.{List}
 use Prim.Native.Nat.{ℕ, _+_, _-_, _≤_, _<_}
 use native.Mathlib.Omega.{arith}
-use lib.ListN.{length, getD, set, length-set}
-use Rattle.intake.specs.Numbers.{unsignedAt, Weighs}
-use Rattle.intake.proofs.Stores.{one-behind}
+use lib.ListN.{length, set}
+use Rattle.intake.specs.Lists.{filled}
+use Rattle.intake.specs.Numbers.{unsignedAt, weightCount, weightsOf}
+use Rattle.intake.proofs.Fills.{length-filled, none-filled, one-filled}
 
-module _ (signs : List Bool) (values : List ℕ) (from to : ℕ) where
+module _ (signs : List Bool) (values : List ℕ) (from to : ℕ) (old : List ℕ) where
   -- so many are written, and the next is read at a place
-  pub record Written (size : ℕ) (weights : List ℕ) (count i : ℕ) : Type 0 where
-    pub sized : length weights ≡ size
+  pub record Written (weights : List ℕ) (count i : ℕ) : Type 0 where
+    pub same : weights ≡ filled (λ k. unsignedAt 4294967295 signs values (from + k)) count old
+    pub sized : length weights ≡ length old
     pub next : i ≡ from + count
     pub within : count ≤ to - from
-    pub inside : count ≤ length weights
-    pub each : (k : ℕ) → k < count → getD weights k 0 ≡ unsignedAt 4294967295 signs values (from + k)
+    pub inside : count ≤ length old
 
-  pub none-written : (weights : List ℕ) → Written (length weights) weights 0 from
-  none-written weights =
-      record { sized = omega arith; next = omega arith; within = omega arith; inside = omega arith; each = λ k h. absurd (omega arith) }
+  pub none-written : Written old 0 from
+  none-written =
+      record {
+        same = none-filled (λ k. unsignedAt 4294967295 signs values (from + k)) old;
+        sized = omega arith;
+        next = omega arith;
+        within = omega arith;
+        inside = omega arith;
+      }
 
-  module _ (size : ℕ) (weights : List ℕ) (count i : ℕ) (w : Written size weights count i) where
+  module _ (weights : List ℕ) (count i : ℕ) (w : Written weights count i) where
     pub one-written
-        : (x : ℕ) → i < to → count < length weights → x ≡ unsignedAt 4294967295 signs values i
-        → Written size (set weights count x) (count + 1) (i + 1)
+        : (x : ℕ) → i < to → count < length weights → x ≡ unsignedAt 4294967295 signs values i → Written (set weights count x) (count + 1) (i + 1)
     one-written x l r e =
+        let same : set weights count x ≡ filled (λ k. unsignedAt 4294967295 signs values (from + k)) (count + 1) old =
+        one-filled (λ k. unsignedAt 4294967295 signs values (from + k)) count old weights x (w .same)
+        (e ∙ ap (unsignedAt 4294967295 signs values) (w .next)) in
         record {
-          sized = length-set weights count x ∙ w .sized;
+          same = same;
+          sized = ap length same ∙ length-filled (λ k. unsignedAt 4294967295 signs values (from + k)) (count + 1) old;
           next = omega (arith, w .next);
           within = omega (arith, w .next);
-          inside = simp length-set (omega arith);
-          each =
-              one-behind (λ k. unsignedAt 4294967295 signs values (from + k)) weights count x r (w .each)
-              (e ∙ ap (unsignedAt 4294967295 signs values) (w .next));
+          inside = omega (arith, w .sized);
         }
 
-    pub no-room : length weights ≤ count → Weighs signs values from to weights count
-    no-room h = record { counted = omega (arith, w .within, w .inside); inside = w .inside; each = w .each }
+    all-written : count ≡ weightCount from to old → (count ≡ weightCount from to old) × (weights ≡ weightsOf signs values from to old)
+    unfolding weightsOf
+    all-written e = (e, w .same ∙ ap (λ (n : ℕ). filled (λ k. unsignedAt 4294967295 signs values (from + k)) n old) e)
 
-    pub no-more : to ≤ i → Weighs signs values from to weights count
-    no-more h = record { counted = omega (arith, w .within, w .inside, w .next); inside = w .inside; each = w .each }
+    pub no-room : length weights ≤ count → (count ≡ weightCount from to old) × (weights ≡ weightsOf signs values from to old)
+    no-room h = all-written (omega (arith, w .within, w .inside, w .sized))
+
+    pub no-more : to ≤ i → (count ≡ weightCount from to old) × (weights ≡ weightsOf signs values from to old)
+    no-more h = all-written (omega (arith, w .within, w .inside, w .next))

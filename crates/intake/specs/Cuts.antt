@@ -2,13 +2,12 @@
 -- Cited by `next_line`. Assumes nothing.
 use mathlib.Core.Bool.{true, false, cond, _&&_, _||_}
 use mathlib.Core.List.{List}
-use Prim.Native.Nat.{ℕ, _+_, _-_}
+use Prim.Native.Nat.{ℕ, _+_, _-_, min}
 use lib.Dec.{ltb, eqb}
 use lib.ListN.{length, getD}
 use Rattle.lines.specs.Lines.{lineEnd}
 use Rattle.intake.specs.declared.Intake.{Intake}
 use Rattle.intake.specs.declared.Cut.{Cut}
-use Rattle.intake.specs.declared.Found.{Found}
 use Rattle.intake.specs.declared.Found.the-variants.{Line, Long, More, Nothing}
 
 -- "A line of over 4,000 bytes is answered `?`, whatever it holds"
@@ -47,8 +46,15 @@ unendedOf at end =
     }
 
 -- "A line ends at a newline or at the end of the input"
-unfoldable pub cutOf : List ℕ → Intake → Cut
-cutOf text at =
+unfoldable pub cutFrom : List ℕ → Intake → Cut
+cutFrom text at =
     cond (ltb (lineEnd text (at .from)) (length text))
     (lineOf text at (lineEnd text (at .from)) (lineEnd text (at .from) + 1))
     (cond (at .ended) (lastOf text at) (unendedOf at (length text)))
+
+-- reading that stands beyond the bytes stands at their end
+unfoldable pub standingOf : List ℕ → Intake → Intake
+standingOf text at = record { from = min (at .from) (length text); skipping = at .skipping; ended = at .ended }
+
+unfoldable pub cutOf : List ℕ → Intake → Cut
+cutOf text at = cutFrom text (standingOf text at)

@@ -1,12 +1,12 @@
 -- The number at a place of two lists, signs and magnitudes, as a type holds it; amounts and weights from a place on. Assumes nothing.
-use mathlib.Core.Path.{_≡_}
 use mathlib.Core.Bool.{Bool, false}
 use mathlib.Core.List.{List}
-use Prim.Native.Nat.{ℕ, _+_, _-_, _≤_, _<_, min}
+use Prim.Native.Nat.{ℕ, _+_, _-_, min}
 use lib.IntN.{ℤ}
 use lib.ListN.{length, getD}
 use Rattle.amount.specs.declared.Amount.{Amount}
 use Rattle.lines.specs.Lines.{asUnsigned, asSigned}
+use Rattle.intake.specs.Lists.{filled}
 
 abbrev pub unsignedAt : (largest : ℕ) → List Bool → List ℕ → ℕ → ℕ
 unsignedAt largest signs values place = asUnsigned largest (getD signs place false) (getD values place 0)
@@ -23,8 +23,10 @@ amountAt signs values place =
       coefficient = signedAt signs values (place + 2);
     }
 
--- the numbers from one place up to another as weights: the first of them, as many as the list has places for
-pub record Weighs (signs : List Bool) (values : List ℕ) (from to : ℕ) (weights : List ℕ) (count : ℕ) : Type 0 where
-  pub counted : count ≡ min (to - from) (length weights)
-  pub inside : count ≤ length weights
-  pub each : (k : ℕ) → k < count → getD weights k 0 ≡ unsignedAt 4294967295 signs values (from + k)
+-- the numbers from one place up to another as weights, as many as the list has places for: how many, and the list afterwards
+abbrev pub weightCount : (from to : ℕ) → List ℕ → ℕ
+weightCount from to weights = min (to - from) (length weights)
+
+unfoldable pub weightsOf : List Bool → List ℕ → (from to : ℕ) → List ℕ → List ℕ
+weightsOf signs values from to weights =
+    filled (λ k. unsignedAt 4294967295 signs values (from + k)) (weightCount from to weights) weights

@@ -7,8 +7,7 @@ use lines::line_end;
 ghost use mathlib.Core.Path.{_≡_};
 ghost use Prim.Native.Nat.{_≤_};
 ghost use lib.ListN.{length};
-ghost use Rattle.lines.specs.Lines.{lineEnd};
-ghost use Rattle.intake.specs.Cuts.{stopOf, lineOf, lastOf, unendedOf, cutOf};
+ghost use Rattle.intake.specs.Cuts.{stopOf, lineOf, lastOf, unendedOf, cutFrom, standingOf, cutOf};
 ghost use Rattle.intake.specs.Bounds.{Within};
 
 const RETURN: u8 = 13;
@@ -120,7 +119,7 @@ fn unended_of(at: Intake, end: usize) -> Cut
 
 fn cut(text: &[u8], at: Intake) -> Cut
     requires { ⌜ at .from ≤ length (now text) ⌝ }
-    ensures { λ r. ⌜ r ≡ cutOf (now (text .entry)) at ⌝ }
+    ensures { λ r. ⌜ r ≡ cutFrom (now (text .entry)) at ⌝ }
 {
     let end = line_end(text, at.from);
     if end < text.len() {
@@ -132,11 +131,24 @@ fn cut(text: &[u8], at: Intake) -> Cut
     unended_of(at, text.len())
 }
 
+// Where reading stands: at the end of the bytes where the place is beyond them.
+fn standing_of(text: &[u8], at: Intake) -> Intake
+    ensures { λ r. ⌜ r ≡ standingOf (now (text .entry)) at ⌝ }
+{
+    if at.from <= text.len() {
+        return at;
+    }
+    Intake {
+        from: text.len(),
+        skipping: at.skipping,
+        ended: at.ended,
+    }
+}
+
 // What the bytes held begin with from where reading stands.
 pub fn next_line(text: &[u8], at: Intake) -> Cut
-    requires { ⌜ at .from ≤ length (now text) ⌝ }
     ensures said { λ r. ⌜ r ≡ cutOf (now (text .entry)) at ⌝ }
     ensures within { λ r. ⌜ Within (length (now (text .entry))) r ⌝ }
 {
-    cut(text, at)
+    cut(text, standing_of(text, at))
 }

@@ -1,16 +1,34 @@
 // Bytes that are kept when more come.
 ghost use mathlib.Core.Path.{_≡_};
-ghost use Prim.Native.Nat.{_-_, _≤_};
-ghost use lib.ListN.{length, take};
-ghost use lib.Seq.{slice};
+ghost use Prim.Native.Nat.{_-_, min};
+ghost use Rattle.intake.specs.Keeping.{keptCount, keptOf};
 
-// Moves the bytes from one place up to another to the front, and answers how many they are.
-pub fn keep(text: &mut [u8], from: usize, to: usize) -> usize
-    requires { ⌜ (from ≤ to) × (to ≤ length (now text)) ⌝ }
-    ensures count { λ r. ⌜ r ≡ to - from ⌝ }
-    ensures kept { λ r. ⌜ take r (now (text .exit)) ≡ slice from to (now (text .entry)) ⌝ }
+// How many places there are from one up to another: none where the first is beyond the last.
+fn between(from: usize, to: usize) -> usize
+    ensures { λ r. ⌜ r ≡ to - from ⌝ }
 {
-    let count = to - from;
+    if to < from {
+        return 0;
+    }
+    to - from
+}
+
+// How many of the bytes held stand from one place up to another.
+fn count_of(held: usize, from: usize, to: usize) -> usize
+    ensures { λ r. ⌜ r ≡ min to held - from ⌝ }
+{
+    if held < to {
+        return between(from, held);
+    }
+    between(from, to)
+}
+
+// Moves the bytes from one place up to another to the front, and answers how many they are. The bytes behind them stay.
+pub fn keep(text: &mut [u8], from: usize, to: usize) -> usize
+    ensures count { λ r. ⌜ r ≡ keptCount (now (text .entry)) from to ⌝ }
+    ensures kept { λ _. ⌜ now (text .exit) ≡ keptOf (now (text .entry)) from to ⌝ }
+{
+    let count = count_of(text.len(), from, to);
     let mut i = 0;
     while i < count {
         text[i] = text[from + i];

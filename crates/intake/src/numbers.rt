@@ -12,27 +12,36 @@ use lines::as_unsigned;
 use lines::read_number;
 use lines::word_from;
 ghost use mathlib.Core.Path.{_≡_};
-ghost use mathlib.Core.Bool.{false};
-ghost use Prim.Native.Nat.{_+_, _≤_, _<_, _^_};
-ghost use lib.ListN.{length, getD};
+ghost use mathlib.Core.Bool.{false, cond};
+ghost use Prim.Native.Nat.{_≤_};
+ghost use lib.ListN.{length, getD, set};
 ghost use Rattle.lines.specs.Lines.{most};
-ghost use Rattle.intake.specs.Numbers.{unsignedAt, signedAt, amountAt, Weighs};
+ghost use Rattle.lines.specs.Reads.{numberAt};
+ghost use Rattle.intake.specs.Numbers.{unsignedAt, signedAt, amountAt, weightCount, weightsOf};
+ghost use Rattle.intake.specs.Words.{nextWord, isNumber, signIn, magnitudeIn, givenOf, signsOf, magnitudesOf};
 
 // The first word from a place on, which lies within the line.
 pub fn next_word(line: &[u8], at: usize) -> Word
-    requires { ⌜ at ≤ length (now line) ⌝ }
-    ensures { λ r. ⌜ (at ≤ r .start) × (r .start ≤ r .end) × (r .end ≤ length (now (line .entry))) ⌝ }
+    ensures said { λ r. ⌜ r ≡ nextWord (now (line .entry)) at ⌝ }
+    ensures within { λ r. ⌜ (r .start ≤ r .end) × (r .end ≤ length (now (line .entry))) ⌝ }
 {
+    if line.len() < at {
+        return word_from(line, line.len());
+    }
     word_from(line, at)
 }
 
-fn put_sign(signs: &mut [bool], place: usize, negative: bool) {
+fn put_sign(signs: &mut [bool], place: usize, negative: bool)
+    ensures { λ _. ⌜ now (signs .exit) ≡ set (now (signs .entry)) place negative ⌝ }
+{
     if place < signs.len() {
         signs[place] = negative;
     }
 }
 
-fn put_magnitude(values: &mut [u64], place: usize, m: u64) {
+fn put_magnitude(values: &mut [u64], place: usize, m: u64)
+    ensures { λ _. ⌜ now (values .exit) ≡ set (now (values .entry)) place m ⌝ }
+{
     if place < values.len() {
         values[place] = m;
     }
@@ -45,7 +54,11 @@ fn take_number(
     signs: &mut [bool],
     values: &mut [u64],
     place: usize,
-) -> bool {
+) -> bool
+    ensures { λ r. ⌜ r ≡ isNumber (numberAt (now (line .entry)) word) ⌝ }
+    ensures { λ r. ⌜ now (signs .exit) ≡ cond r (set (now (signs .entry)) place (signIn (numberAt (now (line .entry)) word))) (now (signs .entry)) ⌝ }
+    ensures { λ r. ⌜ now (values .exit) ≡ cond r (set (now (values .entry)) place (magnitudeIn (numberAt (now (line .entry)) word))) (now (values .entry)) ⌝ }
+{
     match read_number(line, word) {
         Number::Nothing => false,
         Number::Whole(negative, m) => {
@@ -56,12 +69,16 @@ fn take_number(
     }
 }
 
-// The words of a line from a place on: how many numbers they are.
-pub fn read_numbers(line: &[u8], from: usize, signs: &mut [bool], values: &mut [u64]) -> Given {
+// The words of a line from a place on: how many numbers they are. Those before the first that is none stand in the two lists.
+pub fn read_numbers(line: &[u8], from: usize, signs: &mut [bool], values: &mut [u64]) -> Given
+    ensures given { λ r. ⌜ r ≡ givenOf (now (line .entry)) from ⌝ }
+    ensures signs { λ _. ⌜ now (signs .exit) ≡ signsOf (now (line .entry)) from (now (signs .entry)) ⌝ }
+    ensures magnitudes { λ _. ⌜ now (values .exit) ≡ magnitudesOf (now (line .entry)) from (now (values .entry)) ⌝ }
+{
     let mut at = from;
     let mut count = 0;
     while at < line.len() {
-        let word = next_word(line, at);
+        let word = word_from(line, at);
         let end = word.end;
         if end <= word.start {
             return Given::Numbers(count);
@@ -124,11 +141,17 @@ pub fn i64_at(signs: &[bool], values: &[u64], place: usize) -> i64
     as_i64(sign_at(signs, place), magnitude_at(values, place))
 }
 
-// The amount of three numbers from a place on: its currency, its scale and its coefficient.
+// The amount of three numbers from a place on: its currency, its scale and its coefficient. No list has a place past the largest.
 pub fn amount_at(signs: &[bool], values: &[u64], place: usize) -> Amount
-    requires { ⌜ place + 2 < 2 ^ 64 ⌝ }
     ensures { λ r. ⌜ r ≡ amountAt (now (signs .entry)) (now (values .entry)) place ⌝ }
 {
+    if usize::MAX - 2 < place {
+        return Amount {
+            currency: Currency(u8_at(signs, values, place)),
+            scale: 0,
+            coefficient: 0,
+        };
+    }
     Amount {
         currency: Currency(u8_at(signs, values, place)),
         scale: u8_at(signs, values, place + 1),
@@ -144,7 +167,8 @@ pub fn read_weights(
     to: usize,
     weights: &mut [u32],
 ) -> usize
-    ensures { λ r. ⌜ Weighs (now (signs .entry)) (now (values .entry)) from to (now (weights .exit)) r ⌝ }
+    ensures count { λ r. ⌜ r ≡ weightCount from to (now (weights .entry)) ⌝ }
+    ensures weights { λ _. ⌜ now (weights .exit) ≡ weightsOf (now (signs .entry)) (now (values .entry)) from to (now (weights .entry)) ⌝ }
 {
     let mut count = 0;
     let mut i = from;

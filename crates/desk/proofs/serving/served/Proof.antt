@@ -32,7 +32,10 @@ written-requires : tie.Need-written-requires
 written-requires c κs = search needs
 
 refilled-requires : tie.Need-refilled-requires
-refilled-requires c κs = search needs
+refilled-requires c κs =
+    let s = c .before .before .before .before .before .before .before .before .before .before .before in
+    let few = s .pre .1 .waiting (c .before .before .before .enum-told3 .given .1) in
+    (search needs, omega (arith, few, c .before .written .ensures))
 
 enum-told-4 : tie.Need-enum-told-4
 enum-told-4 c = search needs
@@ -59,7 +62,7 @@ returns : tie.Need-returns
 returns c =
     let pre = c .before .before .before .before .before .before .before .before .before .before .before .before .before .before .before .before .before .before .before .before .before .before .before .pre in
     let same = c .before .before .before .before .before .before .before .before .answered .ensures in
-    record { read = omega (arith, pre, same); fits = omega (arith, pre, same) }
+    record { read = omega (arith, pre, same); fits = omega (arith, pre, same); enough = omega (arith, pre) }
 
 same-length-6 : tie.Need-same-length-6
 same-length-6 c = search needs

@@ -1,14 +1,13 @@
 -- After each turn one weight more is written. Assumes nothing.
 use Prim.Native.Nat.{_-_}
 use borrow.Author.Needs.{needs}
-use lib.ListN.{length}
 use Rattle.intake.proofs.Weights.{Written, none-written, one-written, no-room, no-more}
 use Rattle.intake.proofs.numbers.read_weights.Statement.{statement}
 use Rattle.intake.proofs.numbers.read_weights.Tie as tie
 
 abbrev Inv-loop : tie.InvT-loop
 Inv-loop signs values from to weights₀ count₀ i₀ weights count i =
-    Written signs values from to (length weights₀) weights count i
+    Written signs values from to weights₀ weights count i
 
 abbrev μ-loop : tie.MeasureT-loop
 μ-loop signs values from to weights₀ count₀ i₀ weights count i = to - i
