@@ -1,0 +1,3 @@
+mod Meets
+mod Standing
+mod Served

@@ -1,0 +1,2 @@
+pub mod Gathers
+pub mod Stands
