@@ -7,12 +7,12 @@ use refusal::Refusal;
 use whole::is_negative;
 use whole::magnitude;
 
-pub fn put_not_understood(out: &mut [u8], at: usize) -> usize {
+pub(crate) fn put_not_understood(out: &mut [u8], at: usize) -> usize {
     put_bytes(out, at, b"?")
 }
 
 // The refusal's number, and which of two dates it blames.
-pub fn put_refused(out: &mut [u8], at: usize, refusal: Refusal) -> usize {
+pub(crate) fn put_refused(out: &mut [u8], at: usize, refusal: Refusal) -> usize {
     let behind = put_bytes(out, at, b"! ");
     let behind = put_number(out, behind, false, refusal.number() as u64);
     match refusal.blamed() {
@@ -22,22 +22,22 @@ pub fn put_refused(out: &mut [u8], at: usize, refusal: Refusal) -> usize {
     }
 }
 
-pub fn put_accepted(out: &mut [u8], at: usize) -> usize {
+pub(crate) fn put_accepted(out: &mut [u8], at: usize) -> usize {
     put_bytes(out, at, b"=")
 }
 
 // A space and the number.
-pub fn put_count(out: &mut [u8], at: usize, m: u64) -> usize {
+pub(crate) fn put_count(out: &mut [u8], at: usize, m: u64) -> usize {
     let behind = put_bytes(out, at, b" ");
     put_number(out, behind, false, m)
 }
 
-pub fn put_whole(out: &mut [u8], at: usize, n: i64) -> usize {
+pub(crate) fn put_whole(out: &mut [u8], at: usize, n: i64) -> usize {
     let behind = put_bytes(out, at, b" ");
     put_number(out, behind, is_negative(n), magnitude(n))
 }
 
-pub fn put_amount(out: &mut [u8], at: usize, amount: Amount) -> usize {
+pub(crate) fn put_amount(out: &mut [u8], at: usize, amount: Amount) -> usize {
     let behind = put_accepted(out, at);
     let behind = put_count(out, behind, amount.currency.0 as u64);
     let behind = put_count(out, behind, amount.scale as u64);
@@ -45,7 +45,7 @@ pub fn put_amount(out: &mut [u8], at: usize, amount: Amount) -> usize {
 }
 
 // One number for each of a book's places.
-pub fn put_places(out: &mut [u8], at: usize, numbers: [u64; Book::PARTNERS]) -> usize {
+pub(crate) fn put_places(out: &mut [u8], at: usize, numbers: [u64; Book::PARTNERS]) -> usize {
     let mut behind = at;
     let mut i = 0;
     while i < Book::PARTNERS {
@@ -56,7 +56,7 @@ pub fn put_places(out: &mut [u8], at: usize, numbers: [u64; Book::PARTNERS]) -> 
 }
 
 // The first of the shares, as many as are asked for.
-pub fn put_shares(out: &mut [u8], at: usize, shares: &[i64], count: usize) -> usize {
+pub(crate) fn put_shares(out: &mut [u8], at: usize, shares: &[i64], count: usize) -> usize {
     let mut behind = put_accepted(out, at);
     let mut i = 0;
     while i < count {

@@ -85,7 +85,7 @@ fn is_copied(line: &[u8]) -> bool {
 }
 
 // The answer to a line, without its newline.
-pub fn answer(
+pub(crate) fn answer(
     line: &[u8],
     book: Book,
     signs: &mut [bool],

@@ -19,7 +19,7 @@ pub struct Answered {
 }
 
 // The current book before any opening.
-pub fn no_book() -> Book {
+pub(crate) fn no_book() -> Book {
     Book {
         currency: Currency(0),
         count: 0,
@@ -35,7 +35,7 @@ fn put_net(out: &mut [u8], at: usize, net: i64, numbers: [u64; Book::PARTNERS]) 
     put_places(out, behind, numbers)
 }
 
-pub fn open(
+pub(crate) fn open(
     signs: &[bool],
     values: &[u64],
     count: usize,
@@ -77,15 +77,27 @@ fn put_moved(out: &mut [u8], at: usize, moved: Moved) -> Answered {
     }
 }
 
-pub fn post(book: Book, signs: &[bool], values: &[u64], out: &mut [u8], at: usize) -> Answered {
+pub(crate) fn post(
+    book: Book,
+    signs: &[bool],
+    values: &[u64],
+    out: &mut [u8],
+    at: usize,
+) -> Answered {
     put_moved(out, at, book.post(amount_at(signs, values, 0)))
 }
 
-pub fn refund(book: Book, signs: &[bool], values: &[u64], out: &mut [u8], at: usize) -> Answered {
+pub(crate) fn refund(
+    book: Book,
+    signs: &[bool],
+    values: &[u64],
+    out: &mut [u8],
+    at: usize,
+) -> Answered {
     put_moved(out, at, book.refund(amount_at(signs, values, 0)))
 }
 
-pub fn totals(book: Book, out: &mut [u8], at: usize) -> usize {
+pub(crate) fn totals(book: Book, out: &mut [u8], at: usize) -> usize {
     let running = book.totals();
     let totals = running.totals;
     let outcome = running.outcome;

@@ -31,7 +31,7 @@ use tax::tax_from_gross;
 use tax::tax_from_net;
 ghost use Prim.Native.Nat.{_+_, _<_, _^_};
 
-pub fn round(signs: &[bool], values: &[u64], out: &mut [u8], at: usize) -> usize {
+pub(crate) fn round(signs: &[bool], values: &[u64], out: &mut [u8], at: usize) -> usize {
     let n = i64_at(signs, values, 1);
     let d = u64_at(signs, values, 2);
     match plain_quotient(u8_at(signs, values, 0), n, d) {
@@ -50,7 +50,7 @@ fn put_answer(out: &mut [u8], at: usize, answer: Answer) -> usize {
     }
 }
 
-pub fn sum_of(signs: &[bool], values: &[u64], out: &mut [u8], at: usize) -> usize {
+pub(crate) fn sum_of(signs: &[bool], values: &[u64], out: &mut [u8], at: usize) -> usize {
     let one = amount_at(signs, values, 0);
     let other = amount_at(signs, values, 3);
     put_answer(out, at, one.sum(other))
@@ -64,7 +64,7 @@ fn put_order(out: &mut [u8], at: usize, order: Order) -> usize {
     }
 }
 
-pub fn order_of(signs: &[bool], values: &[u64], out: &mut [u8], at: usize) -> usize {
+pub(crate) fn order_of(signs: &[bool], values: &[u64], out: &mut [u8], at: usize) -> usize {
     let one = amount_at(signs, values, 0);
     let other = amount_at(signs, values, 3);
     match one.order(other) {
@@ -73,19 +73,19 @@ pub fn order_of(signs: &[bool], values: &[u64], out: &mut [u8], at: usize) -> us
     }
 }
 
-pub fn negate(signs: &[bool], values: &[u64], out: &mut [u8], at: usize) -> usize {
+pub(crate) fn negate(signs: &[bool], values: &[u64], out: &mut [u8], at: usize) -> usize {
     let amount = amount_at(signs, values, 0);
     put_answer(out, at, amount.negate())
 }
 
-pub fn rescale(signs: &[bool], values: &[u64], out: &mut [u8], at: usize) -> usize {
+pub(crate) fn rescale(signs: &[bool], values: &[u64], out: &mut [u8], at: usize) -> usize {
     let amount = amount_at(signs, values, 0);
     let scale = u8_at(signs, values, 3);
     let mode = u8_at(signs, values, 4);
     put_answer(out, at, amount.rescale(scale, mode))
 }
 
-pub fn converted(signs: &[bool], values: &[u64], out: &mut [u8], at: usize) -> usize {
+pub(crate) fn converted(signs: &[bool], values: &[u64], out: &mut [u8], at: usize) -> usize {
     let amount = amount_at(signs, values, 0);
     let to = Currency(u8_at(signs, values, 3));
     put_answer(out, at, convert(amount, to))
@@ -110,7 +110,7 @@ fn date_at(signs: &[bool], values: &[u64], place: usize) -> Date
     }
 }
 
-pub fn interest_of(signs: &[bool], values: &[u64], out: &mut [u8], at: usize) -> usize {
+pub(crate) fn interest_of(signs: &[bool], values: &[u64], out: &mut [u8], at: usize) -> usize {
     let principal = amount_at(signs, values, 0);
     let rate = u32_at(signs, values, 3);
     let basis = u8_at(signs, values, 4);
@@ -129,7 +129,7 @@ fn put_two(out: &mut [u8], at: usize, one: i64, other: i64) -> usize {
     put_whole(out, behind, other)
 }
 
-pub fn tax_net(signs: &[bool], values: &[u64], out: &mut [u8], at: usize) -> usize {
+pub(crate) fn tax_net(signs: &[bool], values: &[u64], out: &mut [u8], at: usize) -> usize {
     let net = amount_at(signs, values, 0);
     match tax_from_net(net, u32_at(signs, values, 3), u8_at(signs, values, 4)) {
         Taxed::Refused(refusal) => put_refused(out, at, refusal),
@@ -137,7 +137,7 @@ pub fn tax_net(signs: &[bool], values: &[u64], out: &mut [u8], at: usize) -> usi
     }
 }
 
-pub fn tax_gross(signs: &[bool], values: &[u64], out: &mut [u8], at: usize) -> usize {
+pub(crate) fn tax_gross(signs: &[bool], values: &[u64], out: &mut [u8], at: usize) -> usize {
     let gross = amount_at(signs, values, 0);
     match tax_from_gross(gross, u32_at(signs, values, 3), u8_at(signs, values, 4)) {
         Taxed::Refused(refusal) => put_refused(out, at, refusal),
@@ -146,7 +146,7 @@ pub fn tax_gross(signs: &[bool], values: &[u64], out: &mut [u8], at: usize) -> u
 }
 
 // The shares of the amount by the numbers behind it, of which there are `count` with it. The library takes at most 64 weights.
-pub fn share_of(
+pub(crate) fn share_of(
     signs: &[bool],
     values: &[u64],
     count: usize,

@@ -216,7 +216,7 @@ fn run(
 }
 
 // Answers each line of what the descriptor reads.
-pub fn serve(fd: i32) {
+pub(crate) fn serve(fd: i32) {
     let mut text = io::large_buffer();
     let mut out = io::large_buffer();
     let mut signs = [false; NUMBERS];

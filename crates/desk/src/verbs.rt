@@ -82,7 +82,7 @@ fn of_others(word: &[u8]) -> Verb {
 }
 
 // The verb that a word is: it is looked for among those of its length.
-pub fn verb_of(word: &[u8]) -> Verb {
+pub(crate) fn verb_of(word: &[u8]) -> Verb {
     match word.len() {
         4 => of_four(word),
         5 => of_five(word),
@@ -93,7 +93,7 @@ pub fn verb_of(word: &[u8]) -> Verb {
 }
 
 // Whether a verb takes so many numbers: a share and an opening take any count of weights.
-pub fn takes(verb: Verb, count: usize) -> bool {
+pub(crate) fn takes(verb: Verb, count: usize) -> bool {
     match verb {
         Verb::Round => count == 3,
         Verb::Sum => count == 6,

@@ -29,7 +29,7 @@ pub struct Account {
 }
 
 // Before any opening: the book whose every field is 0.
-pub fn no_account() -> Account {
+pub(crate) fn no_account() -> Account {
     let book = Book {
         currency: Currency(0),
         count: 0,
@@ -51,7 +51,7 @@ fn number_of(outcome: Checked) -> u8 {
 }
 
 // The opening that the numbers ask for, of which there are `count`.
-pub fn opened(signs: &[bool], values: &[u64], count: usize, weights: &mut [u32]) -> Account {
+pub(crate) fn opened(signs: &[bool], values: &[u64], count: usize, weights: &mut [u32]) -> Account {
     let currency = Currency(u8_at(signs, values, 0));
     let partners = read_weights(signs, values, 1, count, weights);
     let opened = Book::open(currency, &weights[0..partners]);
@@ -69,7 +69,7 @@ pub fn opened(signs: &[bool], values: &[u64], count: usize, weights: &mut [u32])
 }
 
 // With the calls that wait served, `count` of them.
-pub fn served(
+pub(crate) fn served(
     account: Account,
     count: usize,
     kinds: &[u8],
@@ -123,7 +123,7 @@ fn counted_one(
 
 // With one call served. An amount that is not in the book's currency at its own digits is refused at any net total, so that such a call
 // may go before those that wait.
-pub fn called(account: Account, kind: u8, amount: Amount) -> Account {
+pub(crate) fn called(account: Account, kind: u8, amount: Amount) -> Account {
     let opening = account.opening;
     let book = account.book;
     let tally = account.tally;

@@ -65,7 +65,7 @@ fn is_empty_or_comment(line: &[u8]) -> bool {
 }
 
 // What a line asks for; its numbers stand in the two lists.
-pub fn asked_of(line: &[u8], signs: &mut [bool], values: &mut [u64]) -> Asked {
+pub(crate) fn asked_of(line: &[u8], signs: &mut [bool], values: &mut [u64]) -> Asked {
     if is_empty_or_comment(line) {
         return Asked::Nothing;
     }

@@ -174,7 +174,7 @@ fn step(
 }
 
 // A stretch of lines: the calls on the book itself wait in the two lists, until there is something that can't.
-pub fn gather(
+pub(crate) fn gather(
     text: &[u8],
     currency: u8,
     digits: u8,

@@ -114,7 +114,7 @@ fn put_partner(out: &mut [u8], at: usize, place: usize, partner: Partner) -> usi
 }
 
 // A line for each of the count's partners.
-pub fn put_partners(
+pub(crate) fn put_partners(
     out: &mut [u8],
     at: usize,
     account: Account,
@@ -154,7 +154,7 @@ fn last_of(count: u8) -> u64 {
 }
 
 // Where the totals alone don't add to the net total, the last partner is named, at whom the adding ends.
-pub fn put_check(
+pub(crate) fn put_check(
     out: &mut [u8],
     at: usize,
     account: Account,

@@ -97,7 +97,7 @@ fn counts_none(times: [u64; NUMBERS], unknown: u64) -> bool {
 }
 
 // Before any opening there is a report only where a line is counted.
-pub fn put_report(out: &mut [u8], at: usize, account: Account, unknown: u64) -> usize {
+pub(crate) fn put_report(out: &mut [u8], at: usize, account: Account, unknown: u64) -> usize {
     let opening = account.opening;
     if let Opening::Nothing = opening {
         let times = account.tally.times;

@@ -195,7 +195,7 @@ fn run(
 }
 
 // Runs the lines of what the descriptor reads, and reports.
-pub fn serve(fd: i32) {
+pub(crate) fn serve(fd: i32) {
     let mut text = io::large_buffer();
     let mut out = io::large_buffer();
     let mut signs = [false; NUMBERS];

@@ -67,7 +67,7 @@ fn write_out(out: &[u8], at: usize) -> bool {
 }
 
 // With the reports that wait written; where that fails there is no more to do.
-pub fn written(mut rerun: Rerun, out: &[u8]) -> Rerun
+pub(crate) fn written(mut rerun: Rerun, out: &[u8]) -> Rerun
     ensures { λ r. ⌜ Same rerun r ⌝ }
 {
     rerun.open = write_out(out, rerun.at);
@@ -76,7 +76,7 @@ pub fn written(mut rerun: Rerun, out: &[u8]) -> Rerun
 }
 
 // With the bytes that are not read yet moved to the front, and more behind them.
-pub fn refilled(fd: i32, mut rerun: Rerun, text: &mut [u8]) -> Rerun
+pub(crate) fn refilled(fd: i32, mut rerun: Rerun, text: &mut [u8]) -> Rerun
     requires { ⌜ longest + 1 < length (now text) ⌝ }
     requires { ⌜ rerun .held ≤ rerun .gathering .intake .from + (longest + 1) ⌝ }
     ensures { λ r. ⌜ (r .held ≤ length (now (text .exit))) × (r .gathering .count ≡ rerun .gathering .count) ⌝ }
@@ -97,7 +97,7 @@ pub fn refilled(fd: i32, mut rerun: Rerun, text: &mut [u8]) -> Rerun
 }
 
 // With the calls that wait served.
-pub fn flushed(
+pub(crate) fn flushed(
     mut rerun: Rerun,
     kinds: &[u8],
     coefficients: &[i64],
@@ -139,7 +139,7 @@ fn reported(rerun: Rerun, out: &mut [u8]) -> Rerun
 }
 
 // With the current book ended: its last calls served, and its report put.
-pub fn ended(
+pub(crate) fn ended(
     rerun: Rerun,
     kinds: &[u8],
     coefficients: &[i64],
@@ -156,7 +156,7 @@ pub fn ended(
 }
 
 // With the next book.
-pub fn reopened(
+pub(crate) fn reopened(
     mut rerun: Rerun,
     signs: &[bool],
     values: &[u64],
@@ -171,7 +171,7 @@ pub fn reopened(
 }
 
 // With a call served that could not wait.
-pub fn calling(mut rerun: Rerun, kind: u8, signs: &[bool], values: &[u64]) -> Rerun
+pub(crate) fn calling(mut rerun: Rerun, kind: u8, signs: &[bool], values: &[u64]) -> Rerun
     ensures { λ r. ⌜ Same rerun r ⌝ }
 {
     let account = rerun.account;
@@ -180,7 +180,7 @@ pub fn calling(mut rerun: Rerun, kind: u8, signs: &[bool], values: &[u64]) -> Re
 }
 
 // With the last reports written.
-pub fn closed(rerun: Rerun, out: &[u8]) -> Rerun
+pub(crate) fn closed(rerun: Rerun, out: &[u8]) -> Rerun
     ensures { λ r. ⌜ Same rerun r ⌝ }
 {
     let mut last = written(rerun, out);
@@ -189,7 +189,7 @@ pub fn closed(rerun: Rerun, out: &[u8]) -> Rerun
 }
 
 // With the lines done said, where they are a million more.
-pub fn saying(mut rerun: Rerun) -> Rerun
+pub(crate) fn saying(mut rerun: Rerun) -> Rerun
     ensures { λ r. ⌜ Kept rerun r ⌝ }
 {
     let next = wrapping_add_u64(rerun.said, SAID);

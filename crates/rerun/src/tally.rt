@@ -20,7 +20,7 @@ pub struct Tally {
     pub payouts: [u64; 32],
 }
 
-pub fn no_calls() -> Tally {
+pub(crate) fn no_calls() -> Tally {
     Tally {
         times: [0; NUMBERS],
         sums: [0; 2],
@@ -29,7 +29,7 @@ pub fn no_calls() -> Tally {
 }
 
 // The sum of the numbers from a place on.
-pub fn sum_from(numbers: &[u64], from: usize) -> u64 {
+pub(crate) fn sum_from(numbers: &[u64], from: usize) -> u64 {
     let mut sum = 0;
     let mut i = from;
     while i < numbers.len() {
@@ -76,7 +76,7 @@ fn add_payouts(sums: &mut [u64; 32], side: usize, payouts: &[u64], from: usize)
 }
 
 // With a run of calls counted.
-pub fn counted(
+pub(crate) fn counted(
     tally: Tally,
     kinds: &[u8],
     coefficients: &[i64],

@@ -4,17 +4,17 @@ use lines::put_bytes;
 use lines::put_number;
 
 // Words and a number behind them.
-pub fn put_named(out: &mut [u8], at: usize, words: &[u8], n: u64) -> usize {
+pub(crate) fn put_named(out: &mut [u8], at: usize, words: &[u8], n: u64) -> usize {
     let behind = put_bytes(out, at, words);
     put_number(out, behind, false, n)
 }
 
-pub fn put_end(out: &mut [u8], at: usize) -> usize {
+pub(crate) fn put_end(out: &mut [u8], at: usize) -> usize {
     put_bytes(out, at, b"\n")
 }
 
 // The first of the weights, as many as are asked for.
-pub fn put_weights(
+pub(crate) fn put_weights(
     out: &mut [u8],
     at: usize,
     weights: [u32; Book::PARTNERS],
