@@ -1,5 +1,5 @@
--- The one law of the table's order, for any rows that rise: a number is given exactly when a row of it holds and no row of a
--- smaller number does. A row that holds stops the choice, and the rows behind it have no smaller number. Assumes nothing.
+-- The one law of the table's order, for any rows that rise: a number is given exactly when a row of it holds and no row that stands before
+-- it in the order does. A row that holds stops the choice, and the rows behind it have no smaller rank. Assumes nothing.
 use mathlib.Core.Path.{_≡_, refl, sym, _∙_, ap, subst}
 use mathlib.Core.Bool.{Bool, true, false, _&&_}
 use mathlib.Core.List.{List, [], _∷_}
@@ -8,17 +8,48 @@ use Prim.Native.Nat.{ℕ, _≤_, _<_}
 use native.Mathlib.Nat.{le-trans}
 use native.Mathlib.Omega.{arith}
 use lib.Dec.{T, leb, leb→le}
+use lib.ListN.{getD}
 use Rattle.refusal.specs.declared.Refusal.{Refusal}
+use Rattle.refusal.specs.declared.Refusal.the-variants.{Mode, Scale, Magnitude, Unknown, Differ, Rate, Date, Days, Weights, Negative, Room, Refund, Limit}
 use Rattle.refusal.specs.Number.{numberOf, blamedOf}
-use Rattle.refusal.specs.Rows.{Said, gives, refuses, Row, row, numberAt, holdsAt, firstRow, risingFrom, rising, Holds, here, later}
+use Rattle.refusal.specs.Rank.{asked, rankOf}
+use Rattle.refusal.specs.Rows.{Said, gives, refuses, Row, row, numberAt, holdsAt, rankAt, firstRow, risingFrom, rising, Holds, here, later}
 
 -- number n is given by these rows, whatever the value would be
 unfoldable pub Given : {A : Type 0} → A → ℕ → List Row → Type 0
 Given value n rows = (blamed : ℕ) × (firstRow rows (gives value) ≡ refuses n blamed)
 
--- no row of a smaller number holds
+-- no row that stands before n in the order holds
 unfoldable pub NoneBelow : ℕ → List Row → Type 0
-NoneBelow n rows = (m : ℕ) → m < n → Holds m rows → ⊥
+NoneBelow n rows = (m : ℕ) → rankOf m < rankOf n → Holds m rows → ⊥
+
+-- each number is given exactly when a row of it holds and none before it does
+abbrev pub Exactly : {A : Type 0} → A → List Row → Type 0
+Exactly value rows = (n : ℕ) → Given value n rows ↔ (Holds n rows × NoneBelow n rows)
+
+-- every refusal's number is in the order, so that its rank tells it
+in-order : (r : Refusal) → getD asked (rankOf (numberOf r)) 0 ≡ numberOf r
+in-order Mode = refl
+in-order Scale = refl
+in-order Magnitude = refl
+in-order Unknown = refl
+in-order Differ = refl
+in-order Rate = refl
+in-order (Date d) = refl
+in-order Days = refl
+in-order Weights = refl
+in-order Negative = refl
+in-order Room = refl
+in-order Refund = refl
+in-order Limit = refl
+
+-- and so is every number of which a row holds
+held-in-order : (n : ℕ) (rows : List Row) → Holds n rows → getD asked (rankOf n) 0 ≡ n
+held-in-order n (row r b ∷ rows) (here x xs number holds) = subst (λ (m : ℕ). getD asked (rankOf m) 0 ≡ m) number (in-order r)
+held-in-order n (x ∷ rows) (later y ys h) = held-in-order n rows h
+
+same-rank : (r : Refusal) (n : ℕ) (rows : List Row) → Holds n rows → rankOf (numberOf r) ≡ rankOf n → numberOf r ≡ n
+same-rank r n rows h same = sym (in-order r) ∙ ap (λ (k : ℕ). getD asked k 0) same ∙ held-in-order n rows h
 
 and-left : (a b : Bool) → T (a && b) → T a
 and-left true b t = tt
@@ -28,19 +59,19 @@ and-right : (a b : Bool) → T (a && b) → T b
 and-right true b t = t
 and-right false b t = absurd t
 
--- rows that rise from k have no row below k
-from : (k : ℕ) (rows : List Row) → T (risingFrom k rows) → (m : ℕ) → Holds m rows → k ≤ m
+-- rows that rise from rank k have no row of a smaller rank
+from : (k : ℕ) (rows : List Row) → T (risingFrom k rows) → (m : ℕ) → Holds m rows → k ≤ rankOf m
 from k (x ∷ rows) rises m (here y ys number holds) =
-    subst (λ (n : ℕ). k ≤ n) number (leb→le k (numberAt x) (and-left (leb k (numberAt x)) (risingFrom (numberAt x) rows) rises))
+    subst (λ (n : ℕ). k ≤ rankOf n) number (leb→le k (rankAt x) (and-left (leb k (rankAt x)) (risingFrom (rankAt x) rows) rises))
 from k (x ∷ rows) rises m (later y ys h) =
-    le-trans (leb→le k (numberAt x) (and-left (leb k (numberAt x)) (risingFrom (numberAt x) rows) rises))
-    (from (numberAt x) rows (and-right (leb k (numberAt x)) (risingFrom (numberAt x) rows) rises) m h)
+    le-trans (leb→le k (rankAt x) (and-left (leb k (rankAt x)) (risingFrom (rankAt x) rows) rises))
+    (from (rankAt x) rows (and-right (leb k (rankAt x)) (risingFrom (rankAt x) rows) rises) m h)
 
--- so the first row has the least number
-first-least : (k : ℕ) (x : Row) (rows : List Row) → T (risingFrom k (x ∷ rows)) → (m : ℕ) → Holds m (x ∷ rows) → numberAt x ≤ m
-first-least k x rows rises m (here y ys number holds) = omega arith
+-- so the first row has the least rank
+first-least : (k : ℕ) (x : Row) (rows : List Row) → T (risingFrom k (x ∷ rows)) → (m : ℕ) → Holds m (x ∷ rows) → rankAt x ≤ rankOf m
+first-least k x rows rises m (here y ys number holds) = subst (λ (n : ℕ). rankAt x ≤ rankOf n) number (omega arith)
 first-least k x rows rises m (later y ys h) =
-    from (numberAt x) rows (and-right (leb k (numberAt x)) (risingFrom (numberAt x) rows) rises) m h
+    from (rankAt x) rows (and-right (leb k (rankAt x)) (risingFrom (rankAt x) rows) rises) m h
 
 not-held : (r : Refusal) (rows : List Row) (n : ℕ) → Holds n (row r false ∷ rows) → Holds n rows
 not-held r rows n (here x xs number holds) = let z : _≡_ {A = ℕ} 0 1 = cc in absurd (omega arith)
@@ -63,23 +94,26 @@ module _ {A : Type 0} (value : A) where
   unfolding Given NoneBelow
   given-below k n [] rises (b, e) m less h = absurd (no-value e)
   given-below k n (row r true ∷ rows) rises (b, e) m less h =
-      let first : numberOf r ≤ m = first-least k (row r true) rows rises m h in
-      let same : numberOf r ≡ n = number-same e in omega arith
+      let first : rankOf (numberOf r) ≤ rankOf m = first-least k (row r true) rows rises m h in
+      let same : rankOf (numberOf r) ≡ rankOf n = ap rankOf (number-same e) in omega arith
   given-below k n (row r false ∷ rows) rises (b, e) m less h =
-      given-below (numberOf r) n rows (and-right (leb k (numberOf r)) (risingFrom (numberOf r) rows) rises) (b, e) m less (not-held r rows m h)
+      given-below (rankOf (numberOf r)) n rows (and-right (leb k (rankOf (numberOf r))) (risingFrom (rankOf (numberOf r)) rows) rises) (b, e) m less
+      (not-held r rows m h)
 
   holds-given : (k n : ℕ) (rows : List Row) → T (risingFrom k rows) → Holds n rows → NoneBelow n rows → Given value n rows
   unfolding Given NoneBelow
   holds-given k n (row r true ∷ rows) rises h none =
-      let first : numberOf r ≤ n = first-least k (row r true) rows rises n h in
+      let first : rankOf (numberOf r) ≤ rankOf n = first-least k (row r true) rows rises n h in
       let held : Holds (numberOf r) (row r true ∷ rows) = here (row r true) rows refl refl in
-      let least : numberOf r < n → ⊥ = λ less. none (numberOf r) less held in
-      let same : numberOf r ≡ n = omega arith in (blamedOf r, ap (λ (m : ℕ). refuses m (blamedOf r)) same)
+      let least : rankOf (numberOf r) < rankOf n → ⊥ = λ less. none (numberOf r) less held in
+      let rank : rankOf (numberOf r) ≡ rankOf n = omega arith in
+      (blamedOf r, ap (λ (m : ℕ). refuses m (blamedOf r)) (same-rank r n (row r true ∷ rows) h rank))
   holds-given k n (row r false ∷ rows) rises h none =
-      holds-given (numberOf r) n rows (and-right (leb k (numberOf r)) (risingFrom (numberOf r) rows) rises) (not-held r rows n h)
+      holds-given (rankOf (numberOf r)) n rows (and-right (leb k (rankOf (numberOf r))) (risingFrom (rankOf (numberOf r)) rows) rises)
+      (not-held r rows n h)
       (λ m less held. none m less (later (row r false) rows held))
 
-  -- THE LAW: for rows in the table's order, number n is given exactly when a row of n holds and no row of a smaller number does
+  -- THE LAW: for rows in the order in which they are asked, number n is given exactly when a row of n holds and no row before it does
   pub exactly-when : (n : ℕ) (rows : List Row) → T (rising rows) → Given value n rows ↔ (Holds n rows × NoneBelow n rows)
   exactly-when n rows rises =
-      (λ given. (given-holds n rows given, given-below 1 n rows rises given), λ h. holds-given 1 n rows rises (h .0) (h .1))
+      (λ given. (given-holds n rows given, given-below 0 n rows rises given), λ h. holds-given 0 n rows rises (h .0) (h .1))

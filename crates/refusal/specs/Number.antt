@@ -1,6 +1,8 @@
 -- Document 01, "Refusal numbers": the table's number for each refusal, and the date that it blames.
 -- Cited by `Refusal::number` and `Refusal::blamed`, and by every promise through `refuses`. Assumes nothing.
 use Prim.Native.Nat.{ℕ}
+use Rattle.refusal.specs.declared.Checked.{Checked}
+use Rattle.refusal.specs.declared.Checked.the-variants.{Passed, Refused}
 use Rattle.refusal.specs.declared.Blamed.{Blamed}
 use Rattle.refusal.specs.declared.Blamed.the-variants.{First, Second}
 use Rattle.refusal.specs.declared.Refusal.{Refusal}
@@ -41,3 +43,12 @@ blamedOf Negative = 0
 blamedOf Room = 0
 blamedOf Refund = 0
 blamedOf Limit = 0
+
+-- a check's answer by its number and the date that it blames: both 0 where the check passes
+abbrev pub numberIn : Checked → ℕ
+numberIn Passed = 0
+numberIn (Refused r) = numberOf r
+
+abbrev pub blamedIn : Checked → ℕ
+blamedIn Passed = 0
+blamedIn (Refused r) = blamedOf r

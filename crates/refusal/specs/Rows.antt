@@ -4,11 +4,13 @@ use mathlib.Core.Path.{_≡_}
 use mathlib.Core.Bool.{Bool, true, false, _&&_}
 use mathlib.Core.List.{List, [], _∷_}
 use Prim.Native.Nat.{ℕ, _<_}
-use lib.Dec.{leb}
+use lib.Dec.{leb, ltb}
 use Rattle.refusal.specs.declared.Refusal.{Refusal}
+use Rattle.refusal.specs.declared.Refusal.the-variants.{Rate}
 use Rattle.refusal.specs.declared.Checked.{Checked}
 use Rattle.refusal.specs.declared.Checked.the-variants.{Passed, Refused}
 use Rattle.refusal.specs.Number.{numberOf, blamedOf}
+use Rattle.refusal.specs.Rank.{rankOf}
 
 -- "An answer is the value or a refusal, never both": the table's number, and the date blamed (0 where none is)
 pub data Said (A : Type 0) : Type 0 where
@@ -42,13 +44,20 @@ abbrev pub meansOutcome : {A : Type 0} → Checked → A → Said A
 meansOutcome Passed value = gives value
 meansOutcome (Refused r) value = refuses (numberOf r) (blamedOf r)
 
--- the rows stand in the table's order
+-- row 6 at a rate: "a rate is outside its limits", which are 0 and this one
+abbrev pub rateRows : (most rate : ℕ) → List Row
+rateRows most rate = row Rate (ltb most rate) ∷ []
+
+-- the rows stand in the order in which they are asked
+abbrev pub rankAt : Row → ℕ
+rankAt x = rankOf (numberAt x)
+
 abbrev pub risingFrom : ℕ → List Row → Bool
-risingFrom n [] = true
-risingFrom n (x ∷ rows) = leb n (numberAt x) && risingFrom (numberAt x) rows
+risingFrom rank [] = true
+risingFrom rank (x ∷ rows) = leb rank (rankAt x) && risingFrom (rankAt x) rows
 
 abbrev pub rising : List Row → Bool
-rising = risingFrom 1
+rising = risingFrom 0
 
 -- a row of number n holds
 pub data Holds (n : ℕ) : List Row → Type 0 where

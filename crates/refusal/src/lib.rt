@@ -1,6 +1,7 @@
 // The refusals of document 01's table, and the answer of a check.
 ghost use mathlib.Core.Path.{_≡_};
-ghost use Rattle.refusal.specs.Number.{placeOf, numberOf, blamedOf};
+ghost use Rattle.refusal.specs.Number.{placeOf, numberOf, blamedOf, numberIn, blamedIn};
+ghost use Rattle.refusal.specs.Rows.{checkOf, rateRows};
 
 // Which of a call's two dates a refusal blames.
 pub enum Blamed {
@@ -57,6 +58,9 @@ impl Blamed {
 }
 
 impl Refusal {
+    // The table's last number.
+    pub const LAST: u8 = 13;
+
     // The table's number.
     pub fn number(self) -> u8
         ensures { λ r. ⌜ r ≡ numberOf self ⌝ }
@@ -97,5 +101,38 @@ impl Refusal {
             Refusal::Refund => 0,
             Refusal::Limit => 0,
         }
+    }
+}
+
+impl Checked {
+    // The number of the row that holds, and 0 where none does.
+    pub fn number(self) -> u8
+        ensures { λ r. ⌜ r ≡ numberIn self ⌝ }
+    {
+        match self {
+            Checked::Passed => 0,
+            Checked::Refused(refusal) => refusal.number(),
+        }
+    }
+
+    // The date that is blamed: 1 the first, 2 the second, 0 where no date is.
+    pub fn blamed(self) -> u8
+        ensures { λ r. ⌜ r ≡ blamedIn self ⌝ }
+    {
+        match self {
+            Checked::Passed => 0,
+            Checked::Refused(refusal) => refusal.blamed(),
+        }
+    }
+}
+
+// Row 6 at a rate, or at another number that has a limit.
+pub fn check_rate(rate: u32, most: u32) -> Checked
+    ensures { λ r. ⌜ r ≡ checkOf (rateRows most rate) ⌝ }
+{
+    if most < rate {
+        Checked::Refused(Refusal::Rate)
+    } else {
+        Checked::Passed
     }
 }
