@@ -13,6 +13,7 @@ pub mod Opposite
 pub mod Order
 pub mod Table
 pub mod Threshold
+pub mod Ties
 pub mod Unique
 pub mod UpDown
 pub mod Value

@@ -79,7 +79,7 @@ near-is {rule} half negative n d h k near =
     beside x below above (no differ) (no f) = inr (above (omega arith))
 
 -- the same of signed numbers
-either-sign : (sign : Bool) (k : ℤ) → (k ≡ signedOf sign (magnitudeOf k)) ⊎ (k ≡ signedOf (not sign) (magnitudeOf k))
+pub either-sign : (sign : Bool) (k : ℤ) → (k ≡ signedOf sign (magnitudeOf k)) ⊎ (k ≡ signedOf (not sign) (magnitudeOf k))
 either-sign true (pos k) = inr refl
 either-sign true (negsuc k) = inl refl
 either-sign false (pos k) = inl refl
