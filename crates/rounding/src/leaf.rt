@@ -22,7 +22,8 @@ fn class(rest: u64, d: u64) -> Rest
     }
 }
 
-// The magnitude of n / d under a rule, for a number of the given sign; 0 where d is 0.
+// The magnitude of n / d under a rule, for a number of the given sign; 0 where d is 0. One division: the rest is taken from the quotient by
+// a product and a difference.
 pub fn round(rule: Rule, negative: bool, n: u64, d: u64) -> u64
     ensures { λ r. ⌜ r ≡ roundedMagnitude rule negative n d ⌝ }
 {
@@ -30,7 +31,7 @@ pub fn round(rule: Rule, negative: bool, n: u64, d: u64) -> u64
         return 0;
     }
     let quotient = n / d;
-    let rest = class(n % d, d);
+    let rest = class(n - quotient * d, d);
     let odd = quotient % 2 == 1;
     quotient + crate::modes::rises(rule, negative, odd, rest) as u64
 }

@@ -1,8 +1,9 @@
--- The quotient, and one more where the rule says so, which fits since there is a rest then. Assumes nothing.
+-- The quotient, and one more where the rule says so, which fits since there is a rest then; the rest is what the quotient's multiple of d
+-- leaves of n. Assumes nothing.
 use mathlib.Core.Path.{_≡_, refl, sym, _∙_, ap}
 use mathlib.Core.Bool.{Bool, true, false}
-use Prim.Native.Nat.{ℕ, _+_, _<_, _/_, _%_, _^_}
-use native.Mathlib.Nat.{mod-lt, add-zero, div-le-self}
+use Prim.Native.Nat.{ℕ, _+_, _-_, _*_, _<_, _/_, _%_, _^_}
+use native.Mathlib.Nat.{mod-lt, add-zero, div-le-self, div-mul-le-self, div-add-mod'}
 use native.Mathlib.Omega.{arith}
 use borrow.Author.Needs.{needs}
 use borrow.Author.Tests.{eq-eqb}
@@ -14,6 +15,10 @@ use Rattle.rounding.proofs.Bounds.{at-divisor, rise-has-rest, below-num
 use Rattle.rounding.proofs.leaf.round.Statement.{statement}
 use Rattle.rounding.proofs.leaf.round.Tie as tie
 
+-- the rest by a product and a difference
+rest-is : (n d : ℕ) → n - n / d * d ≡ n % d
+rest-is n d = omega (arith, div-add-mod' n d)
+
 returns : tie.Need-returns
 unfolding roundedMagnitude
 returns c = simp (eq-eqb _ _ (c .if1 .taken))
@@ -21,11 +26,16 @@ returns c = simp (eq-eqb _ _ (c .if1 .taken))
 div-quotient : tie.Need-div-quotient
 div-quotient c = search needs
 
-rem-class : tie.Need-rem-class
-rem-class c = search needs
+mul-class : tie.Need-mul-class
+mul-class c =
+    let a = c .before .args in record { fits = omega (arith, c .before .fits .n .fits, div-mul-le-self (a .n) (a .d)) }
+
+sub-class : tie.Need-sub-class
+sub-class c = div-mul-le-self (c .before .args .n) (c .before .args .d)
 
 class-requires : tie.Need-class-requires
-class-requires c κs = mod-lt (c .before .args .n) (omega (arith, c .if1 .left))
+class-requires c κs =
+    let a = c .before .args in rw (rest-is (a .n) (a .d)) (mod-lt (a .n) (omega (arith, c .if1 .left)))
 
 rises-requires : tie.Need-rises-requires
 rises-requires c κs = search needs
@@ -39,7 +49,9 @@ asked : (c : tie.After-rises)
 unfolding isOdd
 asked c =
     let a = c .before .before .before .args in
-    c .rises .ensures ∙ ap (λ x. risesBy (a .rule) (a .negative) (isOdd (a .n / a .d)) x) (c .before .class .ensures)
+    c .rises .ensures
+    ∙ ap (λ x. risesBy (a .rule) (a .negative) (isOdd (a .n / a .d)) x)
+    (c .before .class .ensures ∙ ap (λ (r : ℕ). restOf r (a .d)) (rest-is (a .n) (a .d)))
 
 -- one more where the rule says so, as a number
 raised-is : (b : Bool) (q : ℕ) → q + boolByte b ≡ raised b q
@@ -67,4 +79,4 @@ returns-2 c =
     ∙ sym (at-divisor (a .rule) (a .negative) (a .n) (a .d) (omega (arith, c .before .before .if1 .left)))
 
 pub round-spec : {M : Type 1} → statement M
-round-spec = tie.close (tie.spec returns div-quotient rem-class class-requires rises-requires cast-result add-result returns-2)
+round-spec = tie.close (tie.spec returns div-quotient mul-class sub-class class-requires rises-requires cast-result add-result returns-2)
