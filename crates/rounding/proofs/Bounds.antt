@@ -4,16 +4,22 @@ use mathlib.Core.Path.{_≡_, refl, sym, _∙_, ap}
 use mathlib.Core.Bool.{Bool, true, false, not, cond, _&&_}
 use Prim.Native.Nat.{ℕ, zero, suc, _+_, _*_, _/_, _%_, _<_, _≤_}
 use native.Mathlib.Decide.{ℕ-discrete}
-use native.Mathlib.Nat.{div-add-mod', le-mul-of-pos-right, div-le-self}
+use native.Mathlib.Nat.{div-add-mod', le-mul-of-pos-right, div-le-self, add-zero}
 use native.Mathlib.Omega.{arith}
 use borrow.Author.Tests.{eq-eqb, ne-eqb}
 use lib.Dec.{eqb}
+use mir.Val.{boolByte}
 use Rattle.rounding.specs.declared.Rule.{Rule}
 use Rattle.rounding.specs.declared.Rule.the-variants.{Up, Down, Ceiling, Floor, HalfUp, HalfDown, HalfEven}
 use Rattle.rounding.specs.declared.Rest.{Rest}
 use Rattle.rounding.specs.declared.Rest.the-variants.{Exact}
 use Rattle.rounding.specs.Modes.{risesBy}
 use Rattle.rounding.specs.Leaf.{restOf, isOdd, raised, roundedMagnitude}
+
+-- one more where the rule says so, as a program adds it
+pub raised-is : (b : Bool) (q : ℕ) → q + boolByte b ≡ raised b q
+raised-is true q = refl
+raised-is false q = add-zero q
 
 -- no rule raises an exact quotient
 pub exact-stays : (rule : Rule) (negative odd : Bool) → risesBy rule negative odd Exact ≡ false

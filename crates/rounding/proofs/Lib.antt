@@ -1,6 +1,7 @@
 pub mod Apart
 pub mod Between
 pub mod Bounds
+pub mod Capped
 pub mod Ceiling
 pub mod Chosen
 pub mod Distance

@@ -27,8 +27,8 @@ same-quotient (Value n) (Refused s) e = let z : _≡_ {A = ℕ} 0 1 = cc in absu
 same-quotient (Refused r) (Value m) e = let z : _≡_ {A = ℕ} 0 1 = cc in absurd (omega arith)
 same-quotient (Refused r) (Refused s) e = ap Refused (same-refusal r s e)
 
-pub unique : (mode : ℕ) (n : ℤ) (d : ℕ) (r s : Quotient) → meansQuotient r ≡ plainSaid mode n d → meansQuotient s ≡ plainSaid mode n d → r ≡ s
-unique mode n d r s p q = same-quotient r s (one-answer p q)
+pub one-plain-quotient : (mode : ℕ) (n : ℤ) (d : ℕ) (r s : Quotient) → meansQuotient r ≡ plainSaid mode n d → meansQuotient s ≡ plainSaid mode n d → r ≡ s
+one-plain-quotient mode n d r s p q = same-quotient r s (one-answer p q)
 
 -- the rows of the plain quotient, row 1 first
 abbrev pub allRows : ℕ → ℤ → ℕ → List Row

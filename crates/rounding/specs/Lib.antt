@@ -1,3 +1,4 @@
 pub mod Modes
 pub mod Leaf
+pub mod Product
 pub mod Plain

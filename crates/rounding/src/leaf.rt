@@ -6,7 +6,7 @@ ghost use Prim.Native.Nat.{_<_};
 ghost use Rattle.rounding.specs.Leaf.{restOf, roundedMagnitude};
 
 // The class of the rest of a division by d: of three tests, none, one, two or all hold. No branch depends on the rest.
-fn class(rest: u64, d: u64) -> Rest
+pub(crate) fn class(rest: u64, d: u64) -> Rest
     requires { ⌜ rest < d ⌝ }
     ensures { λ r. ⌜ r ≡ restOf rest d ⌝ }
 {

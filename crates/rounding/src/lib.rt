@@ -4,6 +4,7 @@ use refusal::Refusal;
 mod leaf;
 mod modes;
 mod plain;
+mod product;
 
 // The seven rules, in the order of their mode numbers.
 pub enum Rule {
@@ -47,3 +48,4 @@ pub use leaf::round;
 pub use modes::rises;
 pub use modes::rule_of;
 pub use plain::plain_quotient;
+pub use product::round_product;

@@ -3,7 +3,7 @@
 use mathlib.Core.Path.{_≡_, refl, sym, _∙_, ap}
 use mathlib.Core.Bool.{Bool, true, false}
 use Prim.Native.Nat.{ℕ, _+_, _-_, _*_, _<_, _/_, _%_, _^_}
-use native.Mathlib.Nat.{mod-lt, add-zero, div-le-self, div-mul-le-self, div-add-mod'}
+use native.Mathlib.Nat.{mod-lt, div-le-self, div-mul-le-self, div-add-mod'}
 use native.Mathlib.Omega.{arith}
 use borrow.Author.Needs.{needs}
 use borrow.Author.Tests.{eq-eqb}
@@ -11,7 +11,7 @@ use mir.Syntax.{w64}
 use mir.Val.{Fits, boolByte}
 use Rattle.rounding.specs.Modes.{risesBy}
 use Rattle.rounding.specs.Leaf.{restOf, isOdd, raised, roundedMagnitude}
-use Rattle.rounding.proofs.Bounds.{at-divisor, rise-has-rest, below-numerator}
+use Rattle.rounding.proofs.Bounds.{raised-is, at-divisor, rise-has-rest, below-numerator}
 use Rattle.rounding.proofs.leaf.round.Statement.{statement}
 use Rattle.rounding.proofs.leaf.round.Tie as tie
 
@@ -52,11 +52,6 @@ asked c =
     c .rises .ensures
     ∙ ap (λ x. risesBy (a .rule) (a .negative) (isOdd (a .n / a .d)) x)
     (c .before .class .ensures ∙ ap (λ (r : ℕ). restOf r (a .d)) (rest-is (a .n) (a .d)))
-
--- one more where the rule says so, as a number
-raised-is : (b : Bool) (q : ℕ) → q + boolByte b ≡ raised b q
-raised-is true q = refl
-raised-is false q = add-zero q
 
 -- it fits: the quotient rises only where there is a rest
 raised-fits : (b : Bool) (n d : ℕ) → n < 2 ^ 64 → 0 < d → (b ≡ true → 0 < n % d) → Fits w64 (n / d + boolByte b)

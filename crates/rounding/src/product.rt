@@ -1,0 +1,23 @@
+// The leaf over a product: a x b / d of magnitudes, rounded by a rule, where no word need hold the product.
+use crate::Rule;
+use crate::leaf::class;
+use crate::modes::rises;
+use division::Division;
+use division::divide;
+ghost use mathlib.Core.Path.{_≡_};
+ghost use Rattle.rounding.specs.Product.{roundedProduct};
+
+// The magnitude of a x b / d under a rule, for a number of the given sign; one more than 10^18 where it is over that, or where a factor or the
+// divisor is outside its limits.
+pub fn round_product(rule: Rule, negative: bool, a: u64, b: u64, d: u64) -> u64
+    ensures { λ r. ⌜ r ≡ roundedProduct rule negative a b d ⌝ }
+{
+    let division = divide(a, b, d);
+    let quotient = division.quotient;
+    if Division::MOST < quotient {
+        return Division::MOST + 1;
+    }
+    let rest = class(division.rest, d);
+    let odd = quotient % 2 == 1;
+    quotient + rises(rule, negative, odd, rest) as u64
+}
