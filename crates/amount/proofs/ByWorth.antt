@@ -115,10 +115,10 @@ order-by-worth a b o e =
 
 -- it is total on one currency: two amounts within their limits are ordered, as their worths are
 pub always-ordered : (a b : Amount)
-    → Pair (a .scale) (b .scale) (magnitudeOf (a .coefficient)) (magnitudeOf (b .coefficient)) (a .currency .0) (b .currency .0)
+    → Pair (a .scale) (b .scale) (magnitudeOf (a .coefficient)) (magnitudeOf (b .coefficient)) (a .currency) (b .currency)
     → (o : Order) × (orderSaid a b ≡ gives o) × Says o (worth a b) (worth b a)
 always-ordered a b p =
-    let passes = pair-passes (a .scale) (b .scale) (magnitudeOf (a .coefficient)) (magnitudeOf (b .coefficient)) (a .currency .0) (b .currency .0) p in
+    let passes = pair-passes (a .scale) (b .scale) (magnitudeOf (a .coefficient)) (magnitudeOf (b .coefficient)) (a .currency) (b .currency) p in
     let says = by-worth a b (found a b) .0 refl in (found a b, order-by-worth a b (found a b) passes .1 says, says)
 
 -- "1.5 and 1.50 are equal"

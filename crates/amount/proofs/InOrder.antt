@@ -52,20 +52,20 @@ order-rows a b = record { by-rows = refl; rises = tt }
 abbrev pub turned : Amount → Amount
 turned a = record { currency = a .currency; scale = a .scale; coefficient = negℤ (a .coefficient) }
 
-pub negate-rows : (a : Amount) → Decides (negateSaid a) (amountRows (a .scale) (magnitudeOf (a .coefficient)) (a .currency .0)) (turned a)
+pub negate-rows : (a : Amount) → Decides (negateSaid a) (amountRows (a .scale) (magnitudeOf (a .coefficient)) (a .currency)) (turned a)
 unfolding negateSaid
 negate-rows a = record { by-rows = refl; rises = tt }
 
 abbrev pub allRescaleRows : Amount → (scale mode : ℕ) → List Row
 allRescaleRows a t mode =
     row Mode (badMode mode)
-    ∷ (rescaleRows (a .scale) t (magnitudeOf (a .coefficient)) (a .currency .0) ++ limitRow (rescaled (ruleOf mode) t a))
+    ∷ (rescaleRows (a .scale) t (magnitudeOf (a .coefficient)) (a .currency) ++ limitRow (rescaled (ruleOf mode) t a))
 
 pub rescale-rows : (a : Amount) (scale mode : ℕ) → Decides (rescaleSaid a scale mode) (allRescaleRows a scale mode) (moved (ruleOf mode) scale a)
 unfolding rescaleSaid
 rescale-rows a t mode =
     let v = gives (moved (ruleOf mode) t a) in
-    let rows = rescaleRows (a .scale) t (magnitudeOf (a .coefficient)) (a .currency .0) in
+    let rows = rescaleRows (a .scale) t (magnitudeOf (a .coefficient)) (a .currency) in
     let last = limitRow (rescaled (ruleOf mode) t a) in
     let first = row Mode (badMode mode) ∷ [] in
     record {

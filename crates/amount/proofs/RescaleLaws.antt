@@ -18,8 +18,10 @@ use Rattle.rounding.specs.declared.Rule.{Rule}
 use Rattle.rounding.specs.Modes.{badMode, ruleOf}
 use Rattle.rounding.specs.Leaf.{rounded}
 use Rattle.rounding.proofs.Exact.{exact}
+use Rattle.currency.specs.declared.Currency.{Currency}
+use Rattle.currency.specs.Table.{lastCurrency}
 use Rattle.amount.specs.declared.Amount.{Amount}
-use Rattle.amount.specs.Amounts.{largest, lastScale, lastCurrency, overL, limited, raisedTo}
+use Rattle.amount.specs.Amounts.{largest, lastScale, overL, limited, raisedTo}
 use Rattle.amount.specs.Rescaling.{rescaleRows, rescaled, rescaleByRule, rescaleSaid}
 use Rattle.amount.proofs.Factors.{times-one, times-tens}
 use Rattle.amount.proofs.Limits.{Sound, rescalable}
@@ -57,17 +59,17 @@ accepted x (row r true ∷ rows) v e = let z : _≡_ {A = ℕ} 0 1 = cc in absur
 accepted x (row r false ∷ rows) v e = accepted x rows v e
 
 -- the rows of the way back hold as little as those of the way there
-passes : (s t m c : ℕ) → s ≤ lastScale → t ≤ lastScale → m ≤ largest → c ≤ lastCurrency → checkOf (rescaleRows s t m c) ≡ Passed
-passes s t m c h k l n = simp (le-ltb lastScale s h, le-ltb lastScale t k, le-ltb largest m l, le-ltb lastCurrency c n)
+passes : (s t m : ℕ) (c : Currency) → s ≤ lastScale → t ≤ lastScale → m ≤ largest → c .0 ≤ lastCurrency → checkOf (rescaleRows s t m c) ≡ Passed
+passes s t m c h k l n = simp (le-ltb lastScale s h, le-ltb lastScale t k, le-ltb largest m l, le-ltb lastCurrency (c .0) n)
 
 -- the way back, by the rule
-return : (a : Amount) (t : ℕ) (rule rule₂ : Rule) → a .scale ≤ t → Sound (a .scale) (magnitudeOf (a .coefficient)) (a .currency .0)
+return : (a : Amount) (t : ℕ) (rule rule₂ : Rule) → a .scale ≤ t → Sound (a .scale) (magnitudeOf (a .coefficient)) (a .currency)
     → t ≤ lastScale → magnitudeOf (rescaled rule t a) ≤ largest → rescaleByRule rule₂ (a .scale) (moved rule t a) ≡ gives a
 return a t rule rule₂ h sound scaled within =
     let z = rescaled rule₂ (a .scale) (moved rule t a) in
     passed (limited z (record { currency = a .currency; scale = a .scale; coefficient = z }))
-    (rescaleRows t (a .scale) (magnitudeOf (rescaled rule t a)) (a .currency .0))
-    (passes t (a .scale) (magnitudeOf (rescaled rule t a)) (a .currency .0) scaled (sound .scaled) within (sound .known))
+    (rescaleRows t (a .scale) (magnitudeOf (rescaled rule t a)) (a .currency))
+    (passes t (a .scale) (magnitudeOf (rescaled rule t a)) (a .currency) scaled (sound .scaled) within (sound .known))
     ∙ ap (λ (x : ℤ). limited x (record { currency = a .currency; scale = a .scale; coefficient = x })) (back rule rule₂ t a h)
     ∙ rw (le-ltb largest (magnitudeOf (a .coefficient)) (sound .within))
 
@@ -79,9 +81,9 @@ there-and-back a b t mode mode₂ h chosen e =
     let rule = ruleOf mode in
     let z = rescaled rule t a in
     let behind = accepted b (row Mode (badMode mode) ∷ []) (rescaleByRule rule t a) e in
-    let checked = accepted b (rescaleRows (a .scale) t (magnitudeOf (a .coefficient)) (a .currency .0)) (limited z (moved rule t a)) (behind .1) in
+    let checked = accepted b (rescaleRows (a .scale) t (magnitudeOf (a .coefficient)) (a .currency)) (limited z (moved rule t a)) (behind .1) in
     let made = accepted b (row Limit (overL (magnitudeOf z)) ∷ []) (gives (moved rule t a)) (checked .1) in
-    let limits = rescalable (a .scale) t (magnitudeOf (a .coefficient)) (a .currency .0) (checked .0) in
+    let limits = rescalable (a .scale) t (magnitudeOf (a .coefficient)) (a .currency) (checked .0) in
     let within : magnitudeOf z ≤ largest = ltb-false largest (magnitudeOf z) (clear (row Limit (overL (magnitudeOf z)) ∷ []) (made .0) .0) in
     let same : moved rule t a ≡ b = given (made .1) in
     subst (λ (x : Amount). rescaleSaid x (a .scale) mode₂ ≡ gives a) same

@@ -1,14 +1,16 @@
--- Document 01, "Amounts and the table of currencies", and the rows of the table of refusals that an amount can hold.
+-- Document 01, "Amounts and the table of currencies": the amount, and the rows of the table of refusals that an amount can hold.
 -- Cited by the promises on amounts. Assumes nothing.
-use mathlib.Core.Bool.{Bool, not}
+use mathlib.Core.Bool.{Bool}
 use mathlib.Core.List.{List, [], _∷_}
 use Prim.Native.Nat.{ℕ, _-_, _^_}
-use lib.Dec.{ltb, eqb}
+use lib.Dec.{ltb}
 use lib.IntN.{ℤ, pos, _*ℤ_}
 use Rattle.refusal.specs.Number.{numberOf, blamedOf}
 use Rattle.refusal.specs.Rows.{Said, gives, refuses, Row, row, firstRow}
-use Rattle.refusal.specs.declared.Refusal.the-variants.{Scale, Magnitude, Unknown, Differ, Limit}
+use Rattle.refusal.specs.declared.Refusal.the-variants.{Scale, Magnitude, Unknown, Limit}
 use Rattle.whole.specs.Whole.{magnitudeOf}
+use Rattle.currency.specs.declared.Currency.{Currency}
+use Rattle.currency.specs.Table.{unknown}
 use Rattle.amount.specs.declared.Amount.{Amount}
 use Rattle.amount.specs.declared.Answer.{Answer}
 use Rattle.amount.specs.declared.Answer.the-variants.{Value, Refused}
@@ -18,15 +20,12 @@ abbrev pub meansAmount : Answer → Said Amount
 meansAmount (Value a) = gives a
 meansAmount (Refused r) = refuses (numberOf r) (blamedOf r)
 
--- "The largest magnitude of a coefficient, called L, is 99,999,999,999"; "a scale from 0 to 6"; currency numbers 0 to 20
+-- "The largest magnitude of a coefficient, called L, is 99,999,999,999"; "a scale from 0 to 6"
 abbrev pub largest : ℕ
 largest = 99999999999
 
 abbrev pub lastScale : ℕ
 lastScale = 6
-
-abbrev pub lastCurrency : ℕ
-lastCurrency = 20
 
 -- rows 2, 3 and 4 at an amount, by its scale, its coefficient's magnitude and its currency number
 abbrev pub badScale : ℕ → Bool
@@ -35,10 +34,7 @@ badScale scale = ltb lastScale scale
 abbrev pub overL : ℕ → Bool
 overL m = ltb largest m
 
-abbrev pub unknown : ℕ → Bool
-unknown currency = ltb lastCurrency currency
-
-abbrev pub amountRows : (scale m currency : ℕ) → List Row
+abbrev pub amountRows : (scale m : ℕ) → Currency → List Row
 amountRows scale m currency = row Scale (badScale scale) ∷ row Magnitude (overL m) ∷ row Unknown (unknown currency) ∷ []
 
 -- row 13 at a result

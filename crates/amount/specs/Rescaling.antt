@@ -11,11 +11,13 @@ use Rattle.whole.specs.Whole.{magnitudeOf}
 use Rattle.rounding.specs.declared.Rule.{Rule}
 use Rattle.rounding.specs.Modes.{badMode, ruleOf}
 use Rattle.rounding.specs.Leaf.{rounded}
+use Rattle.currency.specs.declared.Currency.{Currency}
+use Rattle.currency.specs.Table.{unknown}
 use Rattle.amount.specs.declared.Amount.{Amount}
-use Rattle.amount.specs.Amounts.{badScale, overL, unknown, limited, raisedTo}
+use Rattle.amount.specs.Amounts.{badScale, overL, limited, raisedTo}
 
 -- the rows behind row 1: row 2 at the amount's scale and at the new one, 3 and 4
-abbrev pub rescaleRows : (s t m c : ℕ) → List Row
+abbrev pub rescaleRows : (s t m : ℕ) → Currency → List Row
 rescaleRows s t m c = row Scale (badScale s) ∷ row Scale (badScale t) ∷ row Magnitude (overL m) ∷ row Unknown (unknown c) ∷ []
 
 -- the coefficient at scale t
@@ -24,7 +26,7 @@ rescaled rule t a = cond (leb (a .scale) t) (raisedTo t a) (rounded rule (a .coe
 
 abbrev pub rescaleByRule : Rule → ℕ → Amount → Said Amount
 rescaleByRule rule t a =
-    firstRow (rescaleRows (a .scale) t (magnitudeOf (a .coefficient)) (a .currency .0))
+    firstRow (rescaleRows (a .scale) t (magnitudeOf (a .coefficient)) (a .currency))
     (limited (rescaled rule t a) (record { currency = a .currency; scale = t; coefficient = rescaled rule t a }))
 
 unfoldable pub rescaleSaid : Amount → (scale mode : ℕ) → Said Amount

@@ -1,7 +1,7 @@
 // What every call that takes or makes an amount checks.
 use crate::Amount;
 use crate::Answer;
-use crate::Currency;
+use currency::Currency;
 use refusal::Checked;
 use refusal::Refusal;
 use whole::magnitude;
@@ -10,7 +10,7 @@ ghost use Rattle.refusal.specs.Rows.{checkOf};
 ghost use Rattle.amount.specs.Amounts.{amountRows, limited, meansAmount};
 
 // Rows 2, 3 and 4 at an amount: its scale, its coefficient's magnitude and its currency number.
-pub fn check_one(scale: u8, m: u64, currency: u8) -> Checked
+pub fn check_one(scale: u8, m: u64, currency: Currency) -> Checked
     ensures { λ r. ⌜ r ≡ checkOf (amountRows scale m currency) ⌝ }
 {
     if Amount::SCALE < scale {
@@ -19,7 +19,7 @@ pub fn check_one(scale: u8, m: u64, currency: u8) -> Checked
     if Amount::L < m {
         return Checked::Refused(Refusal::Magnitude);
     }
-    if Currency::LAST < currency {
+    if Currency::LAST < currency.0 {
         return Checked::Refused(Refusal::Unknown);
     }
     Checked::Passed

@@ -42,14 +42,7 @@ impl Amount {
     {
         let m = magnitude(self.coefficient);
         let n = magnitude(other.coefficient);
-        match check_two(
-            self.scale,
-            other.scale,
-            m,
-            n,
-            self.currency.0,
-            other.currency.0,
-        ) {
+        match check_two(self.scale, other.scale, m, n, self.currency, other.currency) {
             Checked::Refused(refusal) => Ordered::Refused(refusal),
             Checked::Passed => Ordered::Value(ordered(
                 self.coefficient,

@@ -1,10 +1,10 @@
 // An amount taken to another scale.
 use crate::Amount;
 use crate::Answer;
-use crate::Currency;
 use crate::checks::within;
 use crate::sum::raised;
-use crate::table::power_of_ten;
+use currency::Currency;
+use currency::power_of_ten;
 use refusal::Checked;
 use refusal::Refusal;
 use rounding::Choice;
@@ -26,7 +26,7 @@ ghost use Rattle.amount.specs.Amounts.{largest, lastScale, meansAmount};
 ghost use Rattle.amount.specs.Rescaling.{rescaleRows, rescaleByRule, rescaleSaid};
 
 // Rows 2, 3 and 4 at an amount of scale s and magnitude m in the currency c, and at the new scale t.
-fn check(s: u8, t: u8, m: u64, c: u8) -> Checked
+fn check(s: u8, t: u8, m: u64, c: Currency) -> Checked
     ensures { λ r. ⌜ r ≡ checkOf (rescaleRows s t m c) ⌝ }
 {
     if Amount::SCALE < s {
@@ -38,7 +38,7 @@ fn check(s: u8, t: u8, m: u64, c: u8) -> Checked
     if Amount::L < m {
         return Checked::Refused(Refusal::Magnitude);
     }
-    if Currency::LAST < c {
+    if Currency::LAST < c.0 {
         return Checked::Refused(Refusal::Unknown);
     }
     Checked::Passed
@@ -73,7 +73,7 @@ fn by_rule(amount: Amount, scale: u8, rule: Rule) -> Answer
 {
     let currency = amount.currency;
     let m = magnitude(amount.coefficient);
-    match check(amount.scale, scale, m, currency.0) {
+    match check(amount.scale, scale, m, currency) {
         Checked::Refused(refusal) => Answer::Refused(refusal),
         Checked::Passed => within(Amount {
             currency,

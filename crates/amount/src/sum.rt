@@ -1,10 +1,10 @@
 // The sum of two amounts and the opposite of one, and what every call with two amounts checks.
 use crate::Amount;
 use crate::Answer;
-use crate::Currency;
 use crate::checks::check_one;
 use crate::checks::within;
-use crate::table::power_of_ten;
+use currency::Currency;
+use currency::power_of_ten;
 use refusal::Checked;
 use refusal::Refusal;
 use whole::is_negative;
@@ -21,7 +21,7 @@ ghost use Rattle.amount.specs.Amounts.{largest, lastScale, meansAmount};
 ghost use Rattle.amount.specs.Sum.{pairRows, sumSaid, negateSaid};
 
 // Rows 2 to 5 at two amounts: their scales s and t, their coefficients' magnitudes m and n, their currency numbers c and d.
-pub(crate) fn check_two(s: u8, t: u8, m: u64, n: u64, c: u8, d: u8) -> Checked
+pub(crate) fn check_two(s: u8, t: u8, m: u64, n: u64, c: Currency, d: Currency) -> Checked
     ensures { λ r. ⌜ r ≡ checkOf (pairRows s t m n c d) ⌝ }
 {
     if Amount::SCALE < s {
@@ -36,13 +36,13 @@ pub(crate) fn check_two(s: u8, t: u8, m: u64, n: u64, c: u8, d: u8) -> Checked
     if Amount::L < n {
         return Checked::Refused(Refusal::Magnitude);
     }
-    if Currency::LAST < c {
+    if Currency::LAST < c.0 {
         return Checked::Refused(Refusal::Unknown);
     }
-    if Currency::LAST < d {
+    if Currency::LAST < d.0 {
         return Checked::Refused(Refusal::Unknown);
     }
-    if c != d {
+    if c.0 != d.0 {
         return Checked::Refused(Refusal::Differ);
     }
     Checked::Passed
@@ -98,7 +98,7 @@ impl Amount {
         let currency = self.currency;
         let m = magnitude(self.coefficient);
         let n = magnitude(other.coefficient);
-        match check_two(self.scale, other.scale, m, n, currency.0, other.currency.0) {
+        match check_two(self.scale, other.scale, m, n, currency, other.currency) {
             Checked::Refused(refusal) => Answer::Refused(refusal),
             Checked::Passed => within(Amount {
                 currency,
@@ -113,7 +113,7 @@ impl Amount {
         ensures { λ r. ⌜ meansAmount r ≡ negateSaid self ⌝ }
     {
         let currency = self.currency;
-        match check_one(self.scale, magnitude(self.coefficient), currency.0) {
+        match check_one(self.scale, magnitude(self.coefficient), currency) {
             Checked::Refused(refusal) => Answer::Refused(refusal),
             Checked::Passed => Answer::Value(Amount {
                 currency,

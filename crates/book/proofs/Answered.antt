@@ -16,8 +16,9 @@ use Rattle.refusal.proofs.Check.{passed, refused, clear}
 use Rattle.whole.specs.Sums.{sumOf}
 use Rattle.whole.specs.Whole.{negative}
 use Rattle.amount.specs.declared.Amount.{Amount}
-use Rattle.amount.specs.declared.Currency.{Currency}
-use Rattle.amount.specs.Amounts.{largest, overL, unknown}
+use Rattle.currency.specs.declared.Currency.{Currency}
+use Rattle.amount.specs.Amounts.{largest, overL}
+use Rattle.currency.specs.Table.{unknown}
 use Rattle.units.specs.Rule.{totals}
 use Rattle.book.specs.declared.Book.{Book}
 use Rattle.book.specs.declared.Moved.{Moved}
@@ -94,7 +95,7 @@ module _ (b : Book) (a : Amount) where
 module _ (b : Book) where
   abbrev pub runRows : List Row
   runRows =
-      row Magnitude (overL (netOf b)) ∷ row Unknown (unknown (b .currency .0)) ∷ weightRows (b .count) (b .weights)
+      row Magnitude (overL (netOf b)) ∷ row Unknown (unknown (b .currency)) ∷ weightRows (b .count) (b .weights)
       ++ (row Negative (negative (b .net)) ∷ [])
 
   pub run-fit : checkOf runRows ≡ Passed → (netOf b ≤ largest) × (1 ≤ sumOf (b .weights)) × (sumOf (b .weights) ≤ weightSum)
@@ -126,7 +127,7 @@ padded-rows ws n = rw (sum-padding ws n, sum-padded ws n, sum-past ws (length ws
 -- the rows of an opening
 module _ (c : Currency) (ws : List ℕ) where
   abbrev pub openRows : List Row
-  openRows = row Unknown (unknown (c .0)) ∷ weightRows (length ws) ws
+  openRows = row Unknown (unknown c) ∷ weightRows (length ws) ws
 
   pub open-fit : checkOf openRows ≡ Passed → length ws ≤ partners
   unfolding weightRows

@@ -17,8 +17,9 @@ use Rattle.refusal.proofs.Check.{Clear}
 use Rattle.whole.specs.Sums.{sumOf}
 use Rattle.whole.proofs.Sums.{getD-noughts, sum-noughts}
 use Rattle.amount.specs.declared.Amount.{Amount}
-use Rattle.amount.specs.declared.Currency.{Currency}
-use Rattle.amount.specs.Amounts.{largest, overL, unknown}
+use Rattle.currency.specs.declared.Currency.{Currency}
+use Rattle.amount.specs.Amounts.{largest, overL}
+use Rattle.currency.specs.Table.{unknown}
 use Rattle.units.specs.Rule.{totals}
 use Rattle.units.proofs.Added.{sum-totals, never-fall}
 use Rattle.book.specs.declared.Book.{Book}
@@ -119,7 +120,7 @@ pub record Fresh (opened : Book) : Type 0 where
 pub opening : (c : Currency) (ws : List ℕ) (opened : Book) → openSaid c ws ≡ gives opened → Fresh opened
 unfolding openSaid weightRows openBook nextBook
 opening c ws opened e =
-    let k = no-row (row Unknown (unknown (c .0)) ∷ weightRows (length ws) ws) (openBook c ws) opened e in
+    let k = no-row (row Unknown (unknown c) ∷ weightRows (length ws) ws) (openBook c ws) opened e in
     rw (← k .1) (record {
       sixteen = simp (length-append, length-replicate) (omega (arith, ltb-false));
       some = rw padded-sum (omega (arith, ltb-false));

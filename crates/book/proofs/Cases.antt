@@ -8,10 +8,10 @@ use Rattle.refusal.specs.Rows.{gives, refuses}
 use Rattle.refusal.specs.declared.Checked.the-variants.{Passed}
 use Rattle.whole.specs.Sums.{sumOf}
 use Rattle.amount.specs.declared.Amount.{Amount}
-use Rattle.amount.specs.declared.Currency.{Currency}
+use Rattle.currency.specs.declared.Currency.{Currency}
 use Rattle.amount.specs.Amounts.{largest}
-use Rattle.amount.specs.Digits.{notOwnDigits}
-use Rattle.amount.specs.Table.{lineOf}
+use Rattle.currency.specs.Digits.{notOwnDigits}
+use Rattle.currency.specs.Table.{lineOf}
 use Rattle.units.specs.Rule.{mayTake, due, bestOf, takerOf, totals}
 use Rattle.book.specs.declared.Book.{Book}
 use Rattle.book.specs.declared.Moved.{Moved}

@@ -10,7 +10,7 @@ use lib.ListN.{getD}
 use Rattle.refusal.specs.Rows.{gives, refuses}
 use Rattle.whole.proofs.Sums.{sumTo, sum-list, sum-same}
 use Rattle.amount.specs.declared.Amount.{Amount}
-use Rattle.amount.specs.declared.Currency.{Currency}
+use Rattle.currency.specs.declared.Currency.{Currency}
 use Rattle.amount.specs.Amounts.{largest}
 use Rattle.units.specs.Rule.{totals}
 use Rattle.units.specs.Counted.{countOf}

@@ -10,8 +10,9 @@ use Rattle.refusal.specs.declared.Refusal.the-variants.{Magnitude, Unknown, Neg
 use Rattle.refusal.proofs.ExactlyWhen.{Given, NoneBelow, exactly-when}
 use Rattle.whole.specs.Whole.{negative}
 use Rattle.amount.specs.declared.Amount.{Amount}
-use Rattle.amount.specs.declared.Currency.{Currency}
-use Rattle.amount.specs.Amounts.{overL, unknown}
+use Rattle.currency.specs.declared.Currency.{Currency}
+use Rattle.amount.specs.Amounts.{overL}
+use Rattle.currency.specs.Table.{unknown}
 use Rattle.units.specs.Rule.{totals}
 use Rattle.book.specs.declared.Book.{Book}
 use Rattle.book.specs.Books.{weightRows, givenRows}
@@ -25,11 +26,11 @@ abbrev pub refundRows : Book → Amount → List Row
 refundRows b a = moveRows b a ++ (row Refund (ltb (netOf b) (unitsOf a)) ∷ [])
 
 abbrev pub openRows : Currency → List ℕ → List Row
-openRows c ws = row Unknown (unknown (c .0)) ∷ weightRows (length ws) ws
+openRows c ws = row Unknown (unknown c) ∷ weightRows (length ws) ws
 
 abbrev pub totalsRows : Book → List Row
 totalsRows b =
-    row Magnitude (overL (netOf b)) ∷ row Unknown (unknown (b .currency .0)) ∷ weightRows (b .count) (b .weights)
+    row Magnitude (overL (netOf b)) ∷ row Unknown (unknown (b .currency)) ∷ weightRows (b .count) (b .weights)
     ++ (row Negative (negative (b .net)) ∷ [])
 
 pub posting-rises : (b : Book) (a : Amount) → T (rising (postRows b a))

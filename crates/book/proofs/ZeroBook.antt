@@ -11,7 +11,7 @@ use Rattle.refusal.specs.Rows.{Said, refuses, Row, row, numberAt, firstRow}
 use Rattle.refusal.specs.declared.Refusal.{Refusal}
 use Rattle.refusal.specs.declared.Refusal.the-variants.{Weights}
 use Rattle.amount.specs.declared.Amount.{Amount}
-use Rattle.amount.specs.declared.Currency.{Currency}
+use Rattle.currency.specs.declared.Currency.{Currency}
 use Rattle.book.specs.declared.Opened.{Opened}
 use Rattle.book.specs.Books.{weightRows, givenRows}
 use Rattle.book.specs.Moves.{unitsOf, moveRows, postSaid, refundSaid, totalsSaid, zeroBook, Opens, openSaid, openedBook}
@@ -36,11 +36,11 @@ stopped value (row s false ∷ front) rows r up = stopped value front rows r (up
 module _ (a : Amount) where
   pub zero-posting : RefusedBy 9 (postSaid zeroBook a)
   unfolding postSaid moveRows givenRows weightRows zeroBook
-  zero-posting = stopped _ (givenRows (a .scale) (unitsOf a) (a .currency .0) 0 0) (drop 8 (postRows zeroBook a)) Weights (omega arith)
+  zero-posting = stopped _ (givenRows (a .scale) (unitsOf a) (a .currency) 0 (record { 0 = 0 })) (drop 8 (postRows zeroBook a)) Weights (omega arith)
 
   pub zero-refund : RefusedBy 9 (refundSaid zeroBook a)
   unfolding refundSaid moveRows givenRows weightRows zeroBook
-  zero-refund = stopped _ (givenRows (a .scale) (unitsOf a) (a .currency .0) 0 0) (drop 8 (refundRows zeroBook a)) Weights (omega arith)
+  zero-refund = stopped _ (givenRows (a .scale) (unitsOf a) (a .currency) 0 (record { 0 = 0 })) (drop 8 (refundRows zeroBook a)) Weights (omega arith)
 
 pub zero-totals : totalsSaid zeroBook ≡ refuses 9 0
 unfolding totalsSaid weightRows zeroBook

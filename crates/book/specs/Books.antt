@@ -1,15 +1,17 @@
 -- Document 01, "The share book": a book, its limits, and the rows of the table of refusals that a given book can hold.
 -- Cited by the promises of every call on a book. Assumes nothing.
-use mathlib.Core.Bool.{Bool, not}
+use mathlib.Core.Bool.{Bool}
 use mathlib.Core.List.{List, [], _∷_}
 use Prim.Native.Nat.{ℕ}
-use lib.Dec.{ltb, eqb}
+use lib.Dec.{ltb}
 use lib.ListN.{drop, replicate}
 use Rattle.refusal.specs.Rows.{Row, row}
 use Rattle.refusal.specs.declared.Refusal.the-variants.{Scale, Magnitude, Unknown, Differ, Weights, Negative}
 use Rattle.whole.specs.Sums.{sumOf}
-use Rattle.amount.specs.Amounts.{badScale, overL, unknown}
-use Rattle.amount.specs.Digits.{notOwnDigits}
+use Rattle.currency.specs.declared.Currency.{Currency}
+use Rattle.currency.specs.Table.{unknown, differ}
+use Rattle.currency.specs.Digits.{notOwnDigits}
+use Rattle.amount.specs.Amounts.{badScale, overL}
 
 -- "a count of 1 to 16, sixteen weights (those past the count are 0) with sum W from 1 to 10,000"
 abbrev pub partners : ℕ
@@ -33,7 +35,7 @@ weightRows count ws =
     ∷ []
 
 -- rows 2 to 5 at an amount (its scale, magnitude and currency) and at a given book (its net total's magnitude and its currency)
-unfoldable pub givenRows : (scale m currency n own : ℕ) → List Row
+unfoldable pub givenRows : (scale m : ℕ) → Currency → (n : ℕ) → (own : Currency) → List Row
 givenRows scale m currency n own =
     row Scale (badScale scale)
     ∷ row Scale (notOwnDigits currency scale)
@@ -41,7 +43,7 @@ givenRows scale m currency n own =
     ∷ row Magnitude (overL n)
     ∷ row Unknown (unknown currency)
     ∷ row Unknown (unknown own)
-    ∷ row Differ (not (eqb currency own))
+    ∷ row Differ (differ currency own)
     ∷ []
 
 -- row 10 at an amount and at a given book

@@ -11,8 +11,9 @@ use Rattle.refusal.specs.Rows.{Said, gives, refuses, meansOutcome, Row, row, fi
 use Rattle.refusal.specs.declared.Refusal.the-variants.{Magnitude, Unknown, Negative, Refund, Limit}
 use Rattle.whole.specs.Whole.{negative, magnitudeOf}
 use Rattle.amount.specs.declared.Amount.{Amount}
-use Rattle.amount.specs.declared.Currency.{Currency}
-use Rattle.amount.specs.Amounts.{overL, unknown}
+use Rattle.currency.specs.declared.Currency.{Currency}
+use Rattle.amount.specs.Amounts.{overL}
+use Rattle.currency.specs.Table.{unknown}
 use Rattle.units.specs.Rule.{totals}
 use Rattle.book.specs.declared.Book.{Book}
 use Rattle.book.specs.declared.Opened.{Opened}
@@ -30,7 +31,7 @@ unitsOf a = magnitudeOf (a .coefficient)
 -- the rows of a posting or a refund, before the last one of each
 unfoldable pub moveRows : Book → Amount → List Row
 moveRows b a =
-    givenRows (a .scale) (unitsOf a) (a .currency .0) (netOf b) (b .currency .0)
+    givenRows (a .scale) (unitsOf a) (a .currency) (netOf b) (b .currency)
     ++ (weightRows (b .count) (b .weights) ++ signRows (negative (a .coefficient)) (negative (b .net)))
 
 -- "A posting of A pays each partner the difference of its running totals at N + A and N": the new net total, or the refusal;
@@ -84,7 +85,7 @@ openBook c ws = record { currency = c; count = length ws; weights = ws ++ replic
 
 -- an opening takes a currency and weights: rows 4 and 9
 unfoldable pub openSaid : Currency → List ℕ → Said Book
-openSaid c ws = firstRow (row Unknown (unknown (c .0)) ∷ weightRows (length ws) ws) (gives (openBook c ws))
+openSaid c ws = firstRow (row Unknown (unknown c) ∷ weightRows (length ws) ws) (gives (openBook c ws))
 
 -- "A refused opening has in the book's place one whose every field is 0"
 unfoldable pub openedBook : Said Book → Book
@@ -99,7 +100,7 @@ pub record Opens (c : Currency) (ws : List ℕ) (r : Opened) : Type 0 where
 unfoldable pub totalsSaid : Book → Said (List ℕ)
 totalsSaid b =
     firstRow
-    (row Magnitude (overL (netOf b)) ∷ row Unknown (unknown (b .currency .0)) ∷ weightRows (b .count) (b .weights)
+    (row Magnitude (overL (netOf b)) ∷ row Unknown (unknown (b .currency)) ∷ weightRows (b .count) (b .weights)
     ++ (row Negative (negative (b .net)) ∷ []))
     (gives (totals (b .weights) (netOf b)))
 

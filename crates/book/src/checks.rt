@@ -2,8 +2,8 @@
 use crate::Book;
 use crate::weights::check_weights;
 use amount::Amount;
-use amount::Currency;
-use amount::not_own_digits;
+use currency::Currency;
+use currency::not_own_digits;
 use refusal::Checked;
 use refusal::Refusal;
 use whole::is_negative;
@@ -15,12 +15,13 @@ ghost use lib.Dec.{ltb};
 ghost use Rattle.refusal.specs.Rows.{row, checkOf};
 ghost use Rattle.refusal.specs.declared.Refusal.the-variants.{Magnitude, Unknown, Negative, Refund, Limit};
 ghost use Rattle.whole.specs.Whole.{negative};
-ghost use Rattle.amount.specs.Amounts.{overL, unknown};
+ghost use Rattle.amount.specs.Amounts.{overL};
+ghost use Rattle.currency.specs.Table.{unknown};
 ghost use Rattle.book.specs.Books.{givenRows, weightRows, signRows};
 ghost use Rattle.book.specs.Moves.{netOf, unitsOf, moveRows};
 
 // Rows 2 to 5 at an amount and at a book: m and n are the magnitudes of the coefficient and of the net total.
-fn check_given(scale: u8, m: u64, currency: u8, n: u64, own: u8) -> Checked
+fn check_given(scale: u8, m: u64, currency: Currency, n: u64, own: Currency) -> Checked
     ensures { λ r. ⌜ r ≡ checkOf (givenRows scale m currency n own) ⌝ }
 {
     if Amount::SCALE < scale {
@@ -35,13 +36,13 @@ fn check_given(scale: u8, m: u64, currency: u8, n: u64, own: u8) -> Checked
     if Amount::L < n {
         return Checked::Refused(Refusal::Magnitude);
     }
-    if Currency::LAST < currency {
+    if Currency::LAST < currency.0 {
         return Checked::Refused(Refusal::Unknown);
     }
-    if Currency::LAST < own {
+    if Currency::LAST < own.0 {
         return Checked::Refused(Refusal::Unknown);
     }
-    if currency != own {
+    if currency.0 != own.0 {
         return Checked::Refused(Refusal::Differ);
     }
     Checked::Passed
@@ -89,7 +90,7 @@ fn check_move(book: Book, amount: Amount) -> Checked
 {
     let units = units_of(amount);
     let net = net_of(book);
-    match check_given(amount.scale, units, amount.currency.0, net, book.currency.0) {
+    match check_given(amount.scale, units, amount.currency, net, book.currency) {
         Checked::Refused(refusal) => Checked::Refused(refusal),
         Checked::Passed => {
             let weights = book.weights;
@@ -132,13 +133,19 @@ pub(crate) fn check_refund(book: Book, amount: Amount) -> Checked
 }
 
 // Rows 3, 4, 9 and 10 at a book's parts.
-fn check_parts(n: u64, own: u8, count: usize, weights: [u32; Book::PARTNERS], net: bool) -> Checked
+fn check_parts(
+    n: u64,
+    own: Currency,
+    count: usize,
+    weights: [u32; Book::PARTNERS],
+    net: bool,
+) -> Checked
     ensures { λ r. ⌜ r ≡ checkOf (row Magnitude (overL n) ∷ row Unknown (unknown own) ∷ weightRows count weights ++ (row Negative net ∷ [])) ⌝ }
 {
     if Amount::L < n {
         return Checked::Refused(Refusal::Magnitude);
     }
-    if Currency::LAST < own {
+    if Currency::LAST < own.0 {
         return Checked::Refused(Refusal::Unknown);
     }
     match check_weights(count, weights) {
@@ -153,12 +160,12 @@ fn check_parts(n: u64, own: u8, count: usize, weights: [u32; Book::PARTNERS], ne
 
 // The rows of the running totals.
 pub(crate) fn check_book(book: Book) -> Checked
-    ensures { λ r. ⌜ r ≡ checkOf (row Magnitude (overL (netOf book)) ∷ row Unknown (unknown (book .currency .0)) ∷ weightRows (book .count) (book .weights) ++ (row Negative (negative (book .net)) ∷ [])) ⌝ }
+    ensures { λ r. ⌜ r ≡ checkOf (row Magnitude (overL (netOf book)) ∷ row Unknown (unknown (book .currency)) ∷ weightRows (book .count) (book .weights) ++ (row Negative (negative (book .net)) ∷ [])) ⌝ }
 {
     let weights = book.weights;
     check_parts(
         net_of(book),
-        book.currency.0,
+        book.currency,
         book.count as usize,
         weights,
         is_negative(book.net),

@@ -1,5 +1,5 @@
 // The share book: an amount of money shared by weights, unit by unit, over any run of postings and refunds.
-use amount::Currency;
+use currency::Currency;
 use refusal::Checked;
 
 mod checks;

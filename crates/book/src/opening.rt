@@ -3,7 +3,7 @@ use crate::Book;
 use crate::Opened;
 use crate::weights::check_weights;
 use crate::weights::placed;
-use amount::Currency;
+use currency::Currency;
 use refusal::Checked;
 use refusal::Refusal;
 ghost use mathlib.Core.Path.{_≡_};
@@ -11,15 +11,15 @@ ghost use mathlib.Core.List.{_∷_};
 ghost use lib.ListN.{length};
 ghost use Rattle.refusal.specs.Rows.{row, checkOf};
 ghost use Rattle.refusal.specs.declared.Refusal.the-variants.{Unknown};
-ghost use Rattle.amount.specs.Amounts.{unknown};
+ghost use Rattle.currency.specs.Table.{unknown};
 ghost use Rattle.book.specs.Books.{weightRows};
 ghost use Rattle.book.specs.Moves.{zeroBook, Opens};
 
 // Rows 4 and 9 at a currency number and a list of weights, which is summed only where it has places in a book.
-fn check_open(currency: u8, weights: &[u32]) -> Checked
+fn check_open(currency: Currency, weights: &[u32]) -> Checked
     ensures { λ r. ⌜ r ≡ checkOf (row Unknown (unknown currency) ∷ weightRows (length (now (weights .entry))) (now (weights .entry))) ⌝ }
 {
-    if Currency::LAST < currency {
+    if Currency::LAST < currency.0 {
         return Checked::Refused(Refusal::Unknown);
     }
     if Book::PARTNERS < weights.len() {
@@ -45,7 +45,7 @@ impl Book {
     pub fn open(currency: Currency, weights: &[u32]) -> Opened
         ensures { λ r. ⌜ Opens currency (now (weights .entry)) r ⌝ }
     {
-        match check_open(currency.0, weights) {
+        match check_open(currency, weights) {
             Checked::Refused(refusal) => Opened {
                 outcome: Checked::Refused(refusal),
                 book: zero_book(),

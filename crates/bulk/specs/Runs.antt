@@ -10,7 +10,7 @@ use lib.ListN.{length, getD, set}
 use Rattle.refusal.specs.Rows.{Said, gives, refuses, Row, row, firstRow, meansOutcome}
 use Rattle.refusal.specs.declared.Refusal.the-variants.{Room}
 use Rattle.amount.specs.declared.Amount.{Amount}
-use Rattle.amount.specs.Table.{lineOf}
+use Rattle.currency.specs.Table.{lineOf}
 use Rattle.book.specs.declared.Book.{Book}
 use Rattle.book.specs.Books.{partners}
 use Rattle.book.specs.Moves.{postSaid, refundSaid, nextBook, paidOf, takenOf}
@@ -18,7 +18,7 @@ use Rattle.bulk.specs.declared.Ran.{Ran}
 
 -- a movement's amount: its coefficient, in the book's currency at that currency's own digits
 unfoldable pub amountOf : Book → ℤ → Amount
-amountOf b c = record { currency = b .currency; scale = lineOf (b .currency .0) .digits; coefficient = c }
+amountOf b c = record { currency = b .currency; scale = lineOf (b .currency) .digits; coefficient = c }
 
 -- a call: kind 0 is a posting, any other number a refund
 unfoldable pub callSaid : (kind : ℕ) → Book → ℤ → Said ℕ

@@ -1,8 +1,8 @@
 // The calls of a run by the book's own posting and refund, one after the other.
 use amount::Amount;
-use amount::line_of;
 use book::Book;
 use book::Moved;
+use currency::line_of;
 use refusal::Checked;
 ghost use mathlib.Core.Path.{_≡_};
 ghost use Prim.Native.Nat.{_+_, _*_, _≤_, _<_};

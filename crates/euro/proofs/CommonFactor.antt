@@ -14,10 +14,10 @@ use Rattle.rounding.specs.Leaf.{rounded, roundedMagnitude}
 use Rattle.rounding.proofs.Fractions.{fractions-magnitude}
 use Rattle.rounding.proofs.Order.{signed-times}
 use Rattle.rounding.proofs.Value.{zero-rounds}
-use Rattle.amount.specs.declared.Line.{Line}
+use Rattle.currency.specs.declared.Line.{Line}
+use Rattle.currency.specs.Tens.{powerOfTen}
+use Rattle.currency.proofs.Tables.{Good, power-of-ten}
 use Rattle.amount.specs.Amounts.{largest}
-use Rattle.amount.specs.Tens.{powerOfTen}
-use Rattle.amount.proofs.Tables.{Good, power-of-ten}
 use Rattle.euro.specs.Steps.{toEuro, fromEuro}
 
 -- a sign and a magnitude round by the magnitude

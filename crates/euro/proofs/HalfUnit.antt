@@ -6,14 +6,14 @@ use native.Mathlib.Omega.{arith}
 use lib.IntN.{ℤ, pos, _*ℤ_}
 use Rattle.rounding.proofs.Apart.{distance}
 use Rattle.rounding.proofs.Nearest.{half-up, half-distance}
-use Rattle.amount.specs.declared.Line.{Line}
-use Rattle.amount.specs.Amounts.{lastCurrency}
-use Rattle.amount.specs.Table.{lineOf}
-use Rattle.amount.proofs.Tables.{in-table}
+use Rattle.currency.specs.declared.Currency.{Currency}
+use Rattle.currency.specs.declared.Line.{Line}
+use Rattle.currency.specs.Table.{lastCurrency, lineOf}
+use Rattle.currency.proofs.Tables.{in-table}
 use Rattle.euro.specs.Steps.{toEuro, fromEuro}
 
 -- every line of the table has a rate
-pub has-rate : (currency : ℕ) → currency ≤ lastCurrency → 0 < lineOf currency .figures
+pub has-rate : (currency : Currency) → currency .0 ≤ lastCurrency → 0 < lineOf currency .figures
 has-rate currency known = omega (arith, in-table currency known)
 
 module _ (l : Line) (rate : 0 < l .figures) (decimals : ℕ) (n : ℤ) where

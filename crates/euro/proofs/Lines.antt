@@ -6,35 +6,21 @@ use lib.IntN.{pos, _*ℤ_}
 use Rattle.refusal.specs.Rows.{gives}
 use Rattle.rounding.specs.declared.Rule.the-variants.{HalfUp}
 use Rattle.rounding.specs.Leaf.{restOf, isOdd, rounded, roundedMagnitude}
+use Rattle.currency.specs.declared.Currency.{Currency}
+use Rattle.currency.specs.Table.{lineOf}
+use Rattle.currency.specs.Digits.{notOwnDigits}
+use Rattle.currency.specs.Names.{EUR, DEM, FRF, IEP, ITL}
 use Rattle.amount.specs.declared.Amount.{Amount}
-use Rattle.amount.specs.Digits.{notOwnDigits}
-use Rattle.amount.specs.Table.{lineOf}
 use Rattle.euro.specs.Steps.{toEuro, fromEuro, cents, stepDecimals}
 use Rattle.euro.specs.Conversion.{convertRows, exchanged, converted, convertSaid}
 
--- the currency numbers of the lines
-abbrev EUR : ℕ
-EUR = 0
-
-abbrev DEM : ℕ
-DEM = 2
-
-abbrev FRF : ℕ
-FRF = 4
-
-abbrev IEP : ℕ
-IEP = 5
-
-abbrev ITL : ℕ
-ITL = 6
-
 -- n units of a currency's own digits
-abbrev amountOf : (currency n : ℕ) → Amount
-amountOf c n = record { currency = record { 0 = c }; scale = lineOf c .digits; coefficient = pos n }
+abbrev amountOf : Currency → (n : ℕ) → Amount
+amountOf c n = record { currency = c; scale = lineOf c .digits; coefficient = pos n }
 
 -- so many units of one currency are so many of another
-abbrev Gives : (from n to m : ℕ) → Type 0
-Gives from n to m = convertSaid (amountOf from n) (record { 0 = to }) ≡ gives (amountOf to m)
+abbrev Gives : (from : Currency) (n : ℕ) (to : Currency) (m : ℕ) → Type 0
+Gives from n to m = convertSaid (amountOf from n) to ≡ gives (amountOf to m)
 
 -- 100.00 DEM to EUR: 51.13
 pub dem-to-eur : Gives DEM 10000 EUR 5113

@@ -5,7 +5,6 @@ use mathlib.Core.Bool.{Bool, true, false, cond}
 use mathlib.Core.List.{List, [], _∷_}
 use Prim.Native.Nat.{ℕ, zero, suc, _+_, _*_, _^_}
 use native.Mathlib.Nat.{zero-mul}
-use lib.Dec.{eqb}
 use lib.IntN.{ℤ, pos, negsuc, negℤ, negℤ-negℤ, _*ℤ_}
 use Rattle.refusal.specs.Rows.{Said, gives, refuses, Row, row, firstRow}
 use Rattle.refusal.specs.declared.Refusal.the-variants.{Limit}
@@ -14,13 +13,14 @@ use Rattle.whole.proofs.Laws.{magnitude-opposite}
 use Rattle.rounding.specs.declared.Rule.the-variants.{HalfUp}
 use Rattle.rounding.specs.Leaf.{rounded}
 use Rattle.rounding.proofs.Opposite.{opposite}
+use Rattle.currency.specs.declared.Currency.{Currency}
+use Rattle.currency.specs.declared.Line.{Line}
+use Rattle.currency.specs.Table.{lineOf, same}
+use Rattle.currency.specs.Names.{EUR}
 use Rattle.amount.specs.declared.Amount.{Amount}
-use Rattle.amount.specs.declared.Currency.{Currency}
-use Rattle.amount.specs.declared.Line.{Line}
 use Rattle.amount.specs.Amounts.{overL}
-use Rattle.amount.specs.Table.{lineOf}
 use Rattle.euro.specs.Steps.{toEuro, fromEuro, cents, stepDecimals}
-use Rattle.euro.specs.Conversion.{convertRows, euro, settled, throughEuro, exchanged, converted, convertSaid}
+use Rattle.euro.specs.Conversion.{convertRows, settled, throughEuro, exchanged, converted, convertSaid}
 
 opposite-times : (n : ℤ) (f : ℕ) → negℤ n *ℤ pos f ≡ negℤ (n *ℤ pos f)
 opposite-times (pos zero) f = rw zero-mul
@@ -62,10 +62,10 @@ cond-opposite : (b : Bool) (v v' w w' : Said Amount) → v' ≡ negatedSaid v �
 cond-opposite true v v' w w' e f = e
 cond-opposite false v v' w w' e f = f
 
-settled-opposite : (to : ℕ) (n : ℤ) → settled to (negℤ n) ≡ negatedSaid (settled to n)
+settled-opposite : (to : Currency) (n : ℤ) → settled to (negℤ n) ≡ negatedSaid (settled to n)
 settled-opposite to n = limit-opposite n _ _ refl
 
-module _ (from to : ℕ) (n : ℤ) where
+module _ (from to : Currency) (n : ℤ) where
   through-opposite : throughEuro from to (negℤ n) ≡ negatedSaid (throughEuro from to n)
   through-opposite =
       let step = toEuro (lineOf from) stepDecimals n in
@@ -76,9 +76,9 @@ module _ (from to : ℕ) (n : ℤ) where
   exchanged-opposite : exchanged from to (negℤ n) ≡ negatedSaid (exchanged from to n)
   unfolding exchanged
   exchanged-opposite =
-      cond-opposite (eqb from euro) _ _ _ _
+      cond-opposite (same from EUR) _ _ _ _
       (ap (settled to) (from-euro-opposite (lineOf to) cents n) ∙ settled-opposite to (fromEuro (lineOf to) cents n))
-      (cond-opposite (eqb to euro) _ _ _ _
+      (cond-opposite (same to EUR) _ _ _ _
       (ap (settled to) (to-euro-opposite (lineOf from) cents n) ∙ settled-opposite to (toEuro (lineOf from) cents n))
       through-opposite)
 
@@ -86,5 +86,5 @@ pub convert-opposite : (a : Amount) (to : Currency) → convertSaid (negated a) 
 unfolding convertSaid converted
 convert-opposite a to =
     rw (magnitude-opposite (a .coefficient))
-    (rows-opposite (convertRows (a .scale) (magnitudeOf (a .coefficient)) (a .currency .0) (to .0)) (converted (negated a) (to .0)) (converted a (to .0))
-    (cond-opposite (eqb (a .currency .0) (to .0)) _ _ _ _ refl (exchanged-opposite (a .currency .0) (to .0) (a .coefficient))))
+    (rows-opposite (convertRows (a .scale) (magnitudeOf (a .coefficient)) (a .currency) to) (converted (negated a) to) (converted a to)
+    (cond-opposite (same (a .currency) to) _ _ _ _ refl (exchanged-opposite (a .currency) to (a .coefficient))))

@@ -5,7 +5,6 @@ use mathlib.Core.Bool.{Bool, true, false, not, cond, _&&_}
 use mathlib.Core.List.{List, [], _∷_, _++_}
 use mathlib.Core.Logic.{_↔_}
 use Prim.Native.Nat.{ℕ}
-use lib.Dec.{eqb}
 use lib.IntN.{ℤ}
 use Rattle.refusal.specs.declared.Checked.the-variants.{Passed}
 use Rattle.refusal.specs.declared.Refusal.the-variants.{Limit}
@@ -13,44 +12,45 @@ use Rattle.refusal.specs.Rows.{Said, gives, Row, row, firstRow, checkOf, Holds}
 use Rattle.refusal.proofs.Check.{behind, clear}
 use Rattle.refusal.proofs.ExactlyWhen.{Given, NoneBelow, exactly-when}
 use Rattle.whole.specs.Whole.{magnitudeOf}
+use Rattle.currency.specs.declared.Currency.{Currency}
+use Rattle.currency.specs.Table.{lineOf, same}
+use Rattle.currency.specs.Names.{EUR}
 use Rattle.amount.specs.declared.Amount.{Amount}
-use Rattle.amount.specs.declared.Currency.{Currency}
 use Rattle.amount.specs.Amounts.{overL}
-use Rattle.amount.specs.Table.{lineOf}
 use Rattle.euro.specs.Steps.{toEuro, fromEuro, cents, stepDecimals}
-use Rattle.euro.specs.Conversion.{convertRows, euro, settled, exchanged, converted, convertSaid}
+use Rattle.euro.specs.Conversion.{convertRows, settled, exchanged, converted, convertSaid}
 
 -- the euro step between two old units
 abbrev pub stepOf : Amount → ℤ
-stepOf a = toEuro (lineOf (a .currency .0)) stepDecimals (a .coefficient)
+stepOf a = toEuro (lineOf (a .currency)) stepDecimals (a .coefficient)
 
 -- an amount in a currency, at its own digits
-abbrev pub made : ℕ → ℤ → Amount
-made to n = record { currency = record { 0 = to }; scale = lineOf to .digits; coefficient = n }
+abbrev pub made : Currency → ℤ → Amount
+made to n = record { currency = to; scale = lineOf to .digits; coefficient = n }
 
 -- the amount that is given where no row holds
-abbrev pub resultOf : Amount → ℕ → Amount
+abbrev pub resultOf : Amount → Currency → Amount
 resultOf a to =
-    cond (eqb (a .currency .0) to) a
+    cond (same (a .currency) to) a
     (made to
-    (cond (eqb (a .currency .0) euro) (fromEuro (lineOf to) cents (a .coefficient))
-    (cond (eqb to euro) (toEuro (lineOf (a .currency .0)) cents (a .coefficient)) (fromEuro (lineOf to) stepDecimals (stepOf a)))))
+    (cond (same (a .currency) EUR) (fromEuro (lineOf to) cents (a .coefficient))
+    (cond (same to EUR) (toEuro (lineOf (a .currency)) cents (a .coefficient)) (fromEuro (lineOf to) stepDecimals (stepOf a)))))
 
 -- from an old unit to another
-abbrev pub oldToOld : (from to : ℕ) → Bool
-oldToOld from to = not (eqb from to) && (not (eqb from euro) && not (eqb to euro))
+abbrev pub oldToOld : (from to : Currency) → Bool
+oldToOld from to = not (same from to) && (not (same from EUR) && not (same to EUR))
 
 -- "the result, the euro step .. has a magnitude over L"
-abbrev pub limitRows : Amount → ℕ → List Row
+abbrev pub limitRows : Amount → Currency → List Row
 limitRows a to =
-    row Limit (oldToOld (a .currency .0) to && overL (magnitudeOf (stepOf a)))
+    row Limit (oldToOld (a .currency) to && overL (magnitudeOf (stepOf a)))
     ∷ row Limit (overL (magnitudeOf (resultOf a to .coefficient)))
     ∷ []
 
-abbrev pub givenRows : Amount → ℕ → List Row
-givenRows a to = convertRows (a .scale) (magnitudeOf (a .coefficient)) (a .currency .0) to
+abbrev pub givenRows : Amount → Currency → List Row
+givenRows a to = convertRows (a .scale) (magnitudeOf (a .coefficient)) (a .currency) to
 
-abbrev pub allRows : Amount → ℕ → List Row
+abbrev pub allRows : Amount → Currency → List Row
 allRows a to = givenRows a to ++ limitRows a to
 
 -- two values that agree where the rows let pass are said alike
@@ -60,12 +60,12 @@ agree (row r true ∷ rows) v w h = refl
 agree (row r false ∷ rows) v w h = agree rows v w h
 
 -- what passed row 3
-within : (scale m from to : ℕ) → checkOf (convertRows scale m from to) ≡ Passed → overL m ≡ false
+within : (scale m : ℕ) (from to : Currency) → checkOf (convertRows scale m from to) ≡ Passed → overL m ≡ false
 unfolding convertRows
 within scale m from to e = clear (convertRows scale m from to) e .1 .1 .0
 
 -- the four cases of a conversion: the same currency, from the euro, to the euro, old to old
-cases : (a : Amount) (to : ℕ) (x y step z : ℤ) (same one other : Bool) → overL (magnitudeOf (a .coefficient)) ≡ false
+cases : (a : Amount) (to : Currency) (x y step z : ℤ) (same one other : Bool) → overL (magnitudeOf (a .coefficient)) ≡ false
     → cond same (gives a)
     (cond one (settled to x) (cond other (settled to y) (firstRow (row Limit (overL (magnitudeOf step)) ∷ []) (settled to z))))
     ≡ firstRow
@@ -80,16 +80,16 @@ cases a to x y step z false false false h =
     sym (behind (gives (made to z)) (row Limit (overL (magnitudeOf step)) ∷ []) (row Limit (overL (magnitudeOf z)) ∷ []))
 
 -- what the promise says is the first of these rows that holds, else the result
-pub convert-said : (a : Amount) (to : Currency) → convertSaid a to ≡ firstRow (allRows a (to .0)) (gives (resultOf a (to .0)))
+pub convert-said : (a : Amount) (to : Currency) → convertSaid a to ≡ firstRow (allRows a to) (gives (resultOf a to))
 unfolding convertSaid converted exchanged
 convert-said a to =
-    agree (givenRows a (to .0)) (converted a (to .0)) (firstRow (limitRows a (to .0)) (gives (resultOf a (to .0))))
-    (λ passed. cases a (to .0) (fromEuro (lineOf (to .0)) cents (a .coefficient)) (toEuro (lineOf (a .currency .0)) cents (a .coefficient)) (stepOf a)
-    (fromEuro (lineOf (to .0)) stepDecimals (stepOf a)) (eqb (a .currency .0) (to .0)) (eqb (a .currency .0) euro) (eqb (to .0) euro)
-    (within (a .scale) (magnitudeOf (a .coefficient)) (a .currency .0) (to .0) passed))
-    ∙ sym (behind (gives (resultOf a (to .0))) (givenRows a (to .0)) (limitRows a (to .0)))
+    agree (givenRows a to) (converted a to) (firstRow (limitRows a to) (gives (resultOf a to)))
+    (λ passed. cases a to (fromEuro (lineOf to) cents (a .coefficient)) (toEuro (lineOf (a .currency)) cents (a .coefficient)) (stepOf a)
+    (fromEuro (lineOf to) stepDecimals (stepOf a)) (same (a .currency) to) (same (a .currency) EUR) (same to EUR)
+    (within (a .scale) (magnitudeOf (a .coefficient)) (a .currency) to passed))
+    ∙ sym (behind (gives (resultOf a to)) (givenRows a to) (limitRows a to))
 
-pub convert-exactly-when : (a : Amount) (to number : ℕ)
+pub convert-exactly-when : (a : Amount) (to : Currency) (number : ℕ)
     → Given (resultOf a to) number (allRows a to) ↔ (Holds number (allRows a to) × NoneBelow number (allRows a to))
 unfolding convertRows
 convert-exactly-when a to number = exactly-when (resultOf a to) number (allRows a to) tt

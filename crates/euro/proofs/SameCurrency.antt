@@ -9,9 +9,9 @@ use Rattle.amount.specs.declared.Amount.{Amount}
 use Rattle.euro.specs.Conversion.{convertRows, converted, convertSaid}
 
 pub same-currency : (a : Amount)
-    → checkOf (convertRows (a .scale) (magnitudeOf (a .coefficient)) (a .currency .0) (a .currency .0)) ≡ Passed
+    → checkOf (convertRows (a .scale) (magnitudeOf (a .coefficient)) (a .currency) (a .currency)) ≡ Passed
     → convertSaid a (a .currency) ≡ gives a
 unfolding convertSaid converted
 same-currency a e =
-    passed (converted a (a .currency .0)) (convertRows (a .scale) (magnitudeOf (a .coefficient)) (a .currency .0) (a .currency .0)) e
+    passed (converted a (a .currency)) (convertRows (a .scale) (magnitudeOf (a .coefficient)) (a .currency) (a .currency)) e
     ∙ rw (eq-eqb (a .currency .0) (a .currency .0) refl)

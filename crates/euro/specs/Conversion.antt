@@ -3,20 +3,23 @@
 use mathlib.Core.Bool.{cond}
 use mathlib.Core.List.{List, [], _∷_}
 use Prim.Native.Nat.{ℕ}
-use lib.Dec.{eqb}
 use lib.IntN.{ℤ}
 use Rattle.refusal.specs.Rows.{Said, gives, Row, row, firstRow}
 use Rattle.refusal.specs.declared.Refusal.the-variants.{Scale, Magnitude, Unknown, Limit}
 use Rattle.whole.specs.Whole.{magnitudeOf}
+use Rattle.currency.specs.declared.Currency.{Currency}
+use Rattle.currency.specs.Table.{lineOf, unknown, same}
+use Rattle.currency.specs.Table.{unknown, lineOf}
+use Rattle.currency.specs.Digits.{notOwnDigits}
+use Rattle.currency.specs.Digits.{notOwnDigits}
+use Rattle.currency.specs.Names.{EUR}
+use Rattle.currency.specs.Names.{EUR}
 use Rattle.amount.specs.declared.Amount.{Amount}
-use Rattle.amount.specs.declared.Currency.{Currency}
-use Rattle.amount.specs.Amounts.{badScale, overL, unknown, limited}
-use Rattle.amount.specs.Digits.{notOwnDigits}
-use Rattle.amount.specs.Table.{lineOf}
+use Rattle.amount.specs.Amounts.{badScale, overL, limited}
 use Rattle.euro.specs.Steps.{toEuro, fromEuro, cents, stepDecimals}
 
 -- rows 2, 3 and 4, by the amount's scale, magnitude and currency and by the currency that is asked for
-unfoldable pub convertRows : (scale m from to : ℕ) → List Row
+unfoldable pub convertRows : (scale m : ℕ) → (from to : Currency) → List Row
 convertRows scale m from to =
     row Scale (badScale scale)
     ∷ row Scale (notOwnDigits from scale)
@@ -25,29 +28,25 @@ convertRows scale m from to =
     ∷ row Unknown (unknown to)
     ∷ []
 
--- the euro is currency number 0
-abbrev pub euro : ℕ
-euro = 0
-
 -- the result in a currency, at its own digits; row 13 at the result
-abbrev pub settled : ℕ → ℤ → Said Amount
-settled to n = limited n (record { currency = record { 0 = to }; scale = lineOf to .digits; coefficient = n })
+abbrev pub settled : Currency → ℤ → Said Amount
+settled to n = limited n (record { currency = to; scale = lineOf to .digits; coefficient = n })
 
 -- article 4(4), "Old to old": through the euro; row 13 at the euro step
-abbrev pub throughEuro : (from to : ℕ) → ℤ → Said Amount
+abbrev pub throughEuro : (from to : Currency) → ℤ → Said Amount
 throughEuro from to n =
     let step = toEuro (lineOf from) stepDecimals n in
     firstRow (row Limit (overL (magnitudeOf step)) ∷ []) (settled to (fromEuro (lineOf to) stepDecimals step))
 
 -- between two currencies that differ: euro to old unit, old unit to euro, or old to old
-unfoldable pub exchanged : (from to : ℕ) → ℤ → Said Amount
+unfoldable pub exchanged : (from to : Currency) → ℤ → Said Amount
 exchanged from to n =
-    cond (eqb from euro) (settled to (fromEuro (lineOf to) cents n))
-    (cond (eqb to euro) (settled to (toEuro (lineOf from) cents n)) (throughEuro from to n))
+    cond (same from EUR) (settled to (fromEuro (lineOf to) cents n))
+    (cond (same to EUR) (settled to (toEuro (lineOf from) cents n)) (throughEuro from to n))
 
 -- "Same currency on both sides: the amount unchanged (house rule)"
-unfoldable pub converted : Amount → ℕ → Said Amount
-converted a to = cond (eqb (a .currency .0) to) (gives a) (exchanged (a .currency .0) to (a .coefficient))
+unfoldable pub converted : Amount → Currency → Said Amount
+converted a to = cond (same (a .currency) to) (gives a) (exchanged (a .currency) to (a .coefficient))
 
 unfoldable pub convertSaid : Amount → Currency → Said Amount
-convertSaid a to = firstRow (convertRows (a .scale) (magnitudeOf (a .coefficient)) (a .currency .0) (to .0)) (converted a (to .0))
+convertSaid a to = firstRow (convertRows (a .scale) (magnitudeOf (a .coefficient)) (a .currency) to) (converted a to)

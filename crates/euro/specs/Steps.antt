@@ -4,7 +4,7 @@ use Prim.Native.Nat.{ℕ, _+_, _*_, _^_}
 use lib.IntN.{ℤ, pos, _*ℤ_}
 use Rattle.rounding.specs.declared.Rule.the-variants.{HalfUp}
 use Rattle.rounding.specs.Leaf.{rounded}
-use Rattle.amount.specs.declared.Line.{Line}
+use Rattle.currency.specs.declared.Line.{Line}
 
 -- Article 4(1) and 4(2): the rate K / 10^k keeps its six figures and isn't rounded. Article 4(3): "inverse rates aren't used", so
 -- that an old unit is divided by the rate: n / 10^digits old units are n x 10^k / (10^digits x K) euro.

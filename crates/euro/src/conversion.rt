@@ -1,11 +1,11 @@
 // The two euro steps on magnitudes, each rounded HALF_UP, and the conversion over them.
 use amount::Amount;
 use amount::Answer;
-use amount::Currency;
-use amount::line_of;
-use amount::not_own_digits;
-use amount::power_of_ten;
 use amount::within;
+use currency::Currency;
+use currency::line_of;
+use currency::not_own_digits;
+use currency::power_of_ten;
 use refusal::Checked;
 use refusal::Refusal;
 use rounding::Rule;
@@ -18,8 +18,8 @@ ghost use Prim.Native.Nat.{_^_, _≤_};
 ghost use Rattle.refusal.specs.Rows.{checkOf};
 ghost use Rattle.refusal.specs.declared.Checked.the-variants.{Passed};
 ghost use Rattle.whole.specs.Whole.{magnitudeOf, signedOf};
-ghost use Rattle.amount.specs.Amounts.{largest, lastCurrency, meansAmount};
-ghost use Rattle.amount.specs.Table.{lineOf};
+ghost use Rattle.amount.specs.Amounts.{largest, meansAmount};
+ghost use Rattle.currency.specs.Table.{lastCurrency, lineOf};
 ghost use Rattle.euro.specs.Steps.{toEuro, fromEuro};
 ghost use Rattle.euro.specs.Conversion.{convertRows, settled, throughEuro, exchanged, converted, convertSaid};
 
@@ -32,43 +32,43 @@ const STEP: u8 = 3;
 
 // Old unit to euro at 2 or 3 decimals, divided by the rate. The factor 10^digits of numerator and divisor is left out, so that
 // the product fits.
-fn to_euro(from: u8, decimals: u8, negative: bool, m: u64) -> u64
-    requires { ⌜ (from ≤ lastCurrency) × (decimals ≤ 3) × (m ≤ largest) ⌝ }
+fn to_euro(from: Currency, decimals: u8, negative: bool, m: u64) -> u64
+    requires { ⌜ (from .0 ≤ lastCurrency) × (decimals ≤ 3) × (m ≤ largest) ⌝ }
     ensures { λ r. ⌜ (signedOf negative r ≡ toEuro (lineOf from) decimals (signedOf negative m)) × (r ≤ 10 ^ 18) ⌝ }
 {
-    let line = line_of(Currency(from));
+    let line = line_of(from);
     let shift = power_of_ten(line.places + decimals - line.digits);
     let rate = line.figures;
     round(Rule::HalfUp, negative, m * shift, rate)
 }
 
 // Euro at 2 or 3 decimals to the old unit, multiplied by the rate.
-fn from_euro(to: u8, decimals: u8, negative: bool, m: u64) -> u64
-    requires { ⌜ (to ≤ lastCurrency) × (decimals ≤ 3) × (m ≤ largest) ⌝ }
+fn from_euro(to: Currency, decimals: u8, negative: bool, m: u64) -> u64
+    requires { ⌜ (to .0 ≤ lastCurrency) × (decimals ≤ 3) × (m ≤ largest) ⌝ }
     ensures { λ r. ⌜ (signedOf negative r ≡ fromEuro (lineOf to) decimals (signedOf negative m)) × (r ≤ 10 ^ 18) ⌝ }
 {
-    let line = line_of(Currency(to));
+    let line = line_of(to);
     let shift = power_of_ten(line.places + decimals - line.digits);
     let rate = line.figures;
     round(Rule::HalfUp, negative, m * rate, shift)
 }
 
 // The amount of a magnitude in a currency, at its own digits; refusal 13 where it is over L.
-fn settle(to: u8, negative: bool, m: u64) -> Answer
+fn settle(to: Currency, negative: bool, m: u64) -> Answer
     requires { ⌜ m ≤ 10 ^ 18 ⌝ }
     ensures { λ r. ⌜ meansAmount r ≡ settled to (signedOf negative m) ⌝ }
 {
-    let line = line_of(Currency(to));
+    let line = line_of(to);
     within(Amount {
-        currency: Currency(to),
+        currency: to,
         scale: line.digits,
         coefficient: signed(negative, m),
     })
 }
 
 // Old unit to old unit: through the euro at 3 decimals; refusal 13 where that step or the result is over L.
-fn through_euro(from: u8, to: u8, negative: bool, m: u64) -> Answer
-    requires { ⌜ (from ≤ lastCurrency) × (to ≤ lastCurrency) × (m ≤ largest) ⌝ }
+fn through_euro(from: Currency, to: Currency, negative: bool, m: u64) -> Answer
+    requires { ⌜ (from .0 ≤ lastCurrency) × (to .0 ≤ lastCurrency) × (m ≤ largest) ⌝ }
     ensures { λ r. ⌜ meansAmount r ≡ throughEuro from to (signedOf negative m) ⌝ }
 {
     let step = to_euro(from, STEP, negative, m);
@@ -79,20 +79,20 @@ fn through_euro(from: u8, to: u8, negative: bool, m: u64) -> Answer
 }
 
 // Between two currencies that differ.
-fn exchange(from: u8, to: u8, negative: bool, m: u64) -> Answer
-    requires { ⌜ (from ≤ lastCurrency) × (to ≤ lastCurrency) × (m ≤ largest) ⌝ }
+fn exchange(from: Currency, to: Currency, negative: bool, m: u64) -> Answer
+    requires { ⌜ (from .0 ≤ lastCurrency) × (to .0 ≤ lastCurrency) × (m ≤ largest) ⌝ }
     ensures { λ r. ⌜ meansAmount r ≡ exchanged from to (signedOf negative m) ⌝ }
 {
-    if from == EURO {
+    if from.0 == EURO {
         return settle(to, negative, from_euro(to, CENTS, negative, m));
     }
-    if to == EURO {
+    if to.0 == EURO {
         return settle(to, negative, to_euro(from, CENTS, negative, m));
     }
     through_euro(from, to, negative, m)
 }
 
-fn check(scale: u8, m: u64, from: u8, to: u8) -> Checked
+fn check(scale: u8, m: u64, from: Currency, to: Currency) -> Checked
     ensures { λ r. ⌜ r ≡ checkOf (convertRows scale m from to) ⌝ }
 {
     if Amount::SCALE < scale {
@@ -104,22 +104,22 @@ fn check(scale: u8, m: u64, from: u8, to: u8) -> Checked
     if Amount::L < m {
         return Checked::Refused(Refusal::Magnitude);
     }
-    if Currency::LAST < from {
+    if Currency::LAST < from.0 {
         return Checked::Refused(Refusal::Unknown);
     }
-    if Currency::LAST < to {
+    if Currency::LAST < to.0 {
         return Checked::Refused(Refusal::Unknown);
     }
     Checked::Passed
 }
 
 // What passed the check: the amount itself within one currency, else the exchanged amount.
-fn accepted(amount: Amount, to: u8) -> Answer
-    requires { ⌜ checkOf (convertRows (amount .scale) (magnitudeOf (amount .coefficient)) (amount .currency .0) to) ≡ Passed ⌝ }
+fn accepted(amount: Amount, to: Currency) -> Answer
+    requires { ⌜ checkOf (convertRows (amount .scale) (magnitudeOf (amount .coefficient)) (amount .currency) to) ≡ Passed ⌝ }
     ensures { λ r. ⌜ meansAmount r ≡ converted amount to ⌝ }
 {
-    let from = amount.currency.0;
-    if from == to {
+    let from = amount.currency;
+    if from.0 == to.0 {
         return Answer::Value(amount);
     }
     exchange(
@@ -137,10 +137,10 @@ pub fn convert(amount: Amount, to: Currency) -> Answer
     match check(
         amount.scale,
         magnitude(amount.coefficient),
-        amount.currency.0,
-        to.0,
+        amount.currency,
+        to,
     ) {
         Checked::Refused(refusal) => Answer::Refused(refusal),
-        Checked::Passed => accepted(amount, to.0),
+        Checked::Passed => accepted(amount, to),
     }
 }

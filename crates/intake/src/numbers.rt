@@ -1,7 +1,7 @@
 // The numbers of a line, read once into two lists, signs and magnitudes, and passed on in the types that calls take.
 use crate::Given;
 use amount::Amount;
-use amount::Currency;
+use currency::Currency;
 use lines::Number;
 use lines::Word;
 use lines::as_i64;

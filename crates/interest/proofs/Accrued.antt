@@ -16,6 +16,7 @@ use Rattle.refusal.proofs.Check.{passed, refused, behind, clear}
 use Rattle.whole.specs.Whole.{negative, magnitudeOf}
 use Rattle.rounding.specs.declared.Rule.{Rule}
 use Rattle.rounding.proofs.Value.{by-magnitude}
+use Rattle.currency.specs.declared.Currency.{Currency}
 use Rattle.amount.specs.declared.Amount.{Amount}
 use Rattle.amount.specs.Amounts.{largest, limited}
 use Rattle.interest.specs.declared.Date.{Date}
@@ -36,7 +37,7 @@ module _ (basis : ℕ) (start end : Date) (n : ℕ) (told : gives n ≡ daysSaid
   unfolding daysSaid
   days-are = same-value (basisOf basis .count start end) n (daysRows basis start end) (sym told)
 
-pub accrues : (scale m currency rate basis : ℕ) (start end : Date) (n : ℕ) → checkOf (rateRows scale m currency rate) ≡ Passed
+pub accrues : (scale m : ℕ) (currency : Currency) (rate basis : ℕ) (start end : Date) (n : ℕ) → checkOf (rateRows scale m currency rate) ≡ Passed
     → gives n ≡ daysSaid basis start end → Accrues m rate n
 accrues scale m currency rate basis start end n e told =
     let rows = clear (rateRows scale m currency rate) e in
@@ -70,10 +71,10 @@ by-parts rule n rate basis start end = by-magnitude rule n (rate * basisOf basis
 -- the answer behind row 1, from what the check by the magnitude m and the day count have told
 module _ (rule : Rule) (a : Amount) (rate basis : ℕ) (start end : Date) (m : ℕ) (magnitudes : m ≡ magnitudeOf (a .coefficient)) where
   abbrev rows : ℕ → List Row
-  rows x = interestRows (a .scale) x (a .currency .0) rate basis start end
+  rows x = interestRows (a .scale) x (a .currency) rate basis start end
 
   abbrev front : List Row
-  front = rateRows (a .scale) m (a .currency .0) rate
+  front = rateRows (a .scale) m (a .currency) rate
 
   abbrev made : Said Amount
   made = interestMade rule a rate basis start end

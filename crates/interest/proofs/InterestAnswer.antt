@@ -30,7 +30,7 @@ module _ (a : Amount) (rate basis : ℕ) (start end : Date) (mode : ℕ) where
 
   -- the rows at what the call takes, and row 13 at what it makes
   abbrev pub rowsTaken : List Row
-  rowsTaken = row Mode (badMode mode) ∷ interestRows (a .scale) (magnitudeOf (a .coefficient)) (a .currency .0) rate basis start end
+  rowsTaken = row Mode (badMode mode) ∷ interestRows (a .scale) (magnitudeOf (a .coefficient)) (a .currency) rate basis start end
 
   abbrev pub rowsMade : List Row
   rowsMade = row Limit (overL (magnitudeOf (made .coefficient))) ∷ []

@@ -11,6 +11,7 @@ use Rattle.refusal.specs.declared.Refusal.the-variants.{Rate}
 use Rattle.whole.specs.Whole.{magnitudeOf, signedOf}
 use Rattle.rounding.specs.declared.Rule.{Rule}
 use Rattle.rounding.specs.Leaf.{roundedMagnitude}
+use Rattle.currency.specs.declared.Currency.{Currency}
 use Rattle.amount.specs.declared.Amount.{Amount}
 use Rattle.amount.specs.Amounts.{largest, amountRows}
 use Rattle.interest.specs.declared.Date.{Date}
@@ -25,7 +26,7 @@ pub record Numbered (start end : Date) (from to : ℕ) : Type 0 where
   pub second : to ≡ dayOf end
 
 -- the rows in front of the day count's: an amount's, and row 6 at the rate
-abbrev pub rateRows : (scale m currency rate : ℕ) → List Row
+abbrev pub rateRows : (scale m : ℕ) → Currency → (rate : ℕ) → List Row
 rateRows scale m currency rate = amountRows scale m currency ++ (row Rate (ltb lastRate rate) ∷ [])
 
 -- what the checks let pass: each factor of the interest is within its limit
@@ -42,5 +43,5 @@ accruedTo rule negative m rate basis days =
 -- the answer behind row 1
 abbrev pub interestByRule : Rule → Amount → (rate basis : ℕ) → (start end : Date) → Said Amount
 interestByRule rule a rate basis start end =
-    firstRow (interestRows (a .scale) (magnitudeOf (a .coefficient)) (a .currency .0) rate basis start end)
+    firstRow (interestRows (a .scale) (magnitudeOf (a .coefficient)) (a .currency) rate basis start end)
     (interestMade rule a rate basis start end)

@@ -9,6 +9,7 @@ use Rattle.whole.specs.Whole.{magnitudeOf}
 use Rattle.rounding.specs.declared.Rule.{Rule}
 use Rattle.rounding.specs.Modes.{badMode, ruleOf}
 use Rattle.rounding.specs.Leaf.{rounded}
+use Rattle.currency.specs.declared.Currency.{Currency}
 use Rattle.amount.specs.declared.Amount.{Amount}
 use Rattle.amount.specs.Amounts.{amountRows, limited}
 use Rattle.interest.specs.declared.Date.{Date}
@@ -20,7 +21,7 @@ abbrev pub lastRate : ℕ
 lastRate = 10000
 
 -- the rows behind row 1 and before row 13: an amount's, row 6 at the rate, and those of the day count
-unfoldable pub interestRows : (scale m currency rate basis : ℕ) → (start end : Date) → List Row
+unfoldable pub interestRows : (scale m : ℕ) → Currency → (rate basis : ℕ) → (start end : Date) → List Row
 interestRows scale m currency rate basis start end =
     amountRows scale m currency ++ (row Rate (ltb lastRate rate) ∷ daysRows basis start end)
 
@@ -38,5 +39,5 @@ interestMade rule a rate basis start end =
 unfoldable pub interestSaid : Amount → (rate basis : ℕ) → (start end : Date) → (mode : ℕ) → Said Amount
 interestSaid a rate basis start end mode =
     firstRow
-    (row Mode (badMode mode) ∷ interestRows (a .scale) (magnitudeOf (a .coefficient)) (a .currency .0) rate basis start end)
+    (row Mode (badMode mode) ∷ interestRows (a .scale) (magnitudeOf (a .coefficient)) (a .currency) rate basis start end)
     (interestMade (ruleOf mode) a rate basis start end)

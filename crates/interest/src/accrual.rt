@@ -7,6 +7,7 @@ use amount::Amount;
 use amount::Answer;
 use amount::check_one;
 use amount::within;
+use currency::Currency;
 use refusal::Checked;
 use refusal::Refusal;
 use rounding::Choice;
@@ -26,7 +27,7 @@ ghost use Rattle.interest.specs.Accrual.{rateRows, Accrues, accruedTo, i
 const POINTS: u64 = 10_000;
 
 // Rows 2, 3 and 4 at the principal, and row 6 at the rate.
-fn check(scale: u8, m: u64, currency: u8, rate: u32) -> Checked
+fn check(scale: u8, m: u64, currency: Currency, rate: u32) -> Checked
     ensures { λ r. ⌜ r ≡ checkOf (rateRows scale m currency rate) ⌝ }
 {
     match check_one(scale, m, currency) {
@@ -55,7 +56,7 @@ fn by_rule(rule: Rule, principal: Amount, rate: u32, basis: u8, start: Date, end
 {
     let negative = is_negative(principal.coefficient);
     let m = magnitude(principal.coefficient);
-    match check(principal.scale, m, principal.currency.0, rate) {
+    match check(principal.scale, m, principal.currency, rate) {
         Checked::Refused(refusal) => Answer::Refused(refusal),
         Checked::Passed => match day_count(basis, start, end) {
             DayCount::Refused(refusal) => Answer::Refused(refusal),

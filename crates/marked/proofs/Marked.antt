@@ -3,8 +3,8 @@ use mathlib.Core.Path.{_≡_, refl}
 use Rattle.rounding.specs.Modes.{badMode, ruleOf}
 use Rattle.rounding.specs.Leaf.{restOf, isOdd, roundedMagnitude, rounded}
 use Rattle.rounding.specs.Plain.{plainRows, plainSaid}
-use Rattle.amount.specs.Table.{lineOf}
-use Rattle.amount.specs.Digits.{notOwnDigits}
+use Rattle.currency.specs.Table.{lineOf}
+use Rattle.currency.specs.Digits.{notOwnDigits}
 use Rattle.euro.specs.Steps.{toEuro, fromEuro}
 use Rattle.euro.specs.Conversion.{convertRows, exchanged, converted, convertSaid}
 use Rattle.interest.specs.Calendar.{leap, monthLength, exists, daysOfMonths, daysOfYears, dayNumber}

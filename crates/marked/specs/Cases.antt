@@ -5,9 +5,10 @@ use Prim.Native.Nat.{ℕ, zero, suc}
 use lib.IntN.{ℤ, pos, negsuc}
 use Rattle.refusal.specs.Rows.{Said, gives, refuses}
 use Rattle.rounding.specs.Plain.{plainSaid}
+use Rattle.currency.specs.declared.Currency.{Currency}
+use Rattle.currency.specs.Table.{lineOf}
+use Rattle.currency.specs.Names.{EUR, DEM, FRF, IEP}
 use Rattle.amount.specs.declared.Amount.{Amount}
-use Rattle.amount.specs.declared.Currency.{Currency}
-use Rattle.amount.specs.Table.{lineOf}
 use Rattle.euro.specs.Conversion.{convertSaid}
 use Rattle.euro.specs.Steps.{toEuro, stepDecimals}
 use Rattle.interest.specs.declared.Date.{Date}
@@ -32,15 +33,15 @@ coefficient a = a .coefficient ∷ []
 abbrev taxAndNet : Split → List ℤ
 taxAndNet s = s .tax .coefficient ∷ s .net .coefficient ∷ []
 
--- an amount by its currency number and its coefficient, at two decimals
-abbrev amount : ℕ → ℤ → Amount
-amount currency n = record { currency = record { 0 = currency }; scale = 2; coefficient = n }
+-- an amount by its currency and its coefficient, at two decimals
+abbrev amount : Currency → ℤ → Amount
+amount currency n = record { currency = currency; scale = 2; coefficient = n }
 
-abbrev converted : ℕ → ℤ → ℕ → List ℤ
-converted from n to = numbers coefficient (convertSaid (amount from n) (record { 0 = to }))
+abbrev converted : (from : Currency) → ℤ → (to : Currency) → List ℤ
+converted from n to = numbers coefficient (convertSaid (amount from n) to)
 
 abbrev shared : ℤ → List ℕ → List ℤ
-shared n ws = numbers (λ shares. shares) (sharedSaid (amount 0 n) ws 3)
+shared n ws = numbers (λ shares. shares) (sharedSaid (amount EUR n) ws 3)
 
 abbrev start : Date
 start = record { year = 2023; month = 2; day = 28 }
@@ -62,12 +63,12 @@ unfoldable pub said : List (List ℤ)
 said =
     numbers one (plainSaid 6 (negsuc 4) 2)  -- -5/2 HALF_EVEN
     ∷ numbers one (plainSaid 3 (negsuc 4) 2)  -- -5/2 FLOOR
-    ∷ converted 2 (pos 10000) 0  -- 100.00 DEM to EUR
-    ∷ (toEuro (lineOf 2) stepDecimals (pos 10000) ∷ converted 2 (pos 10000) 4)  -- 100.00 DEM to FRF, with the euro step
-    ∷ converted 2 (pos 100000000) 0  -- 1,000,000.00 DEM to EUR
-    ∷ (converted 0 (pos 2) 5 ++ converted 5 (pos 2) 0)  -- 0.02 EUR to IEP; back
-    ∷ (numbers (λ n. pos n ∷ []) (daysSaid 2 start end) ++ numbers coefficient (interestSaid (amount 0 (pos 100000)) 500 2 start end 4))  -- 1000.00 EUR at 500 points, 2023-02-28 to 2023-03-31, HALF_UP, basis 2
-    ∷ numbers taxAndNet (fromGrossSaid (amount 0 (pos 100)) 200000 4)  -- Gross 1.00 at 200,000, HALF_UP: tax, net
+    ∷ converted DEM (pos 10000) EUR  -- 100.00 DEM to EUR
+    ∷ (toEuro (lineOf DEM) stepDecimals (pos 10000) ∷ converted DEM (pos 10000) FRF)  -- 100.00 DEM to FRF, with the euro step
+    ∷ converted DEM (pos 100000000) EUR  -- 1,000,000.00 DEM to EUR
+    ∷ (converted EUR (pos 2) IEP ++ converted IEP (pos 2) EUR)  -- 0.02 EUR to IEP; back
+    ∷ (numbers (λ n. pos n ∷ []) (daysSaid 2 start end) ++ numbers coefficient (interestSaid (amount EUR (pos 100000)) 500 2 start end 4))  -- 1000.00 EUR at 500 points, 2023-02-28 to 2023-03-31, HALF_UP, basis 2
+    ∷ numbers taxAndNet (fromGrossSaid (amount EUR (pos 100)) 200000 4)  -- Gross 1.00 at 200,000, HALF_UP: tax, net
     ∷ shared (pos 100) (1 ∷ 1 ∷ 1 ∷ [])  -- 100 by 1, 1, 1
     ∷ shared (pos 100) (3 ∷ 3 ∷ 1 ∷ [])  -- 100 by 3, 3, 1
     ∷ shared (negsuc 99) (3 ∷ 3 ∷ 1 ∷ [])  -- -100 by 3, 3, 1

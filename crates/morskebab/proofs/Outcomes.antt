@@ -8,7 +8,7 @@ use lib.ListN.{length}
 use Rattle.refusal.specs.Rows.{Said, meansOutcome}
 use Rattle.refusal.specs.declared.Checked.{Checked}
 use Rattle.refusal.specs.declared.Checked.the-variants.{Passed, Refused}
-use Rattle.amount.specs.declared.Currency.{Currency}
+use Rattle.currency.specs.declared.Currency.{Currency}
 use Rattle.book.specs.declared.Book.{Book}
 use Rattle.book.specs.declared.Opened.{Opened}
 use Rattle.book.specs.declared.Moved.{Moved}

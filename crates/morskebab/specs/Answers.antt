@@ -4,7 +4,7 @@ use Prim.Native.Nat.{ℕ}
 use lib.IntN.{ℤ, pos, negsuc}
 use Rattle.refusal.specs.Rows.{Said, gives, refuses}
 use Rattle.amount.specs.declared.Amount.{Amount}
-use Rattle.amount.specs.declared.Line.{Line}
+use Rattle.currency.specs.declared.Line.{Line}
 use Rattle.amount.specs.declared.Order.{Order}
 use Rattle.amount.specs.declared.Order.the-variants.{Less, Equal, Greater}
 use Rattle.tax.specs.declared.Split.{Split}

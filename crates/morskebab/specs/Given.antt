@@ -2,7 +2,7 @@
 -- gives. Assumes nothing.
 use Prim.Native.Nat.{ℕ}
 use Rattle.amount.specs.declared.Amount.{Amount}
-use Rattle.amount.specs.declared.Currency.{Currency}
+use Rattle.currency.specs.declared.Currency.{Currency}
 use Rattle.interest.specs.declared.Date.{Date}
 use Rattle.book.specs.declared.Book.{Book}
 use Rattle.morskebab.specs.declared.MkbAmount.{MkbAmount}

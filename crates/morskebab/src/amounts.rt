@@ -9,13 +9,13 @@ use crate::answers::lines::flat_line;
 use crate::answers::orders::flat_order;
 use crate::answers::wholes::flat_whole;
 use crate::given::given_amount;
-use amount::Currency;
-use amount::line_of;
+use currency::Currency;
+use currency::line_of;
 use euro::convert;
 use rounding::plain_quotient;
 ghost use mathlib.Core.Path.{_≡_};
 ghost use Rattle.rounding.specs.Plain.{plainSaid};
-ghost use Rattle.amount.specs.Table.{lineOf};
+ghost use Rattle.currency.specs.Table.{lineOf};
 ghost use Rattle.amount.specs.Sum.{sumSaid, orderSaid, negateSaid};
 ghost use Rattle.amount.specs.Rescaling.{rescaleSaid};
 ghost use Rattle.euro.specs.Conversion.{convertSaid};
@@ -33,7 +33,7 @@ pub extern "C" fn mkb_round(mode: u8, n: i64, d: u64) -> MkbWhole
 // The table's line of a currency number; all 0 for a number over 20.
 #[no_mangle]
 pub extern "C" fn mkb_currency(currency: u8) -> MkbLine
-    ensures { λ r. ⌜ r ≡ lineFlat (lineOf currency) ⌝ }
+    ensures { λ r. ⌜ r ≡ lineFlat (lineOf (record { 0 = currency })) ⌝ }
 {
     flat_line(line_of(Currency(currency)))
 }

@@ -12,7 +12,7 @@ use crate::steps::flushed;
 use crate::steps::refilled;
 use crate::steps::reopened;
 use crate::steps::saying;
-use amount::line_of;
+use currency::line_of;
 use intake::Intake;
 ghost use mathlib.Core.Path.{_≡_};
 ghost use Prim.Native.Nat.{_+_, _≤_, _<_};

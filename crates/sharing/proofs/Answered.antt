@@ -52,6 +52,6 @@ module _ (a : Amount) (ws : List ℕ) (room : ℕ) where
   -- what passed may be shared
   pub share-fits : checkOf (allRows a ws room) ≡ Passed → (magnitudeOf (a .coefficient) ≤ L) × Shareable ws room
   share-fits e =
-      let both = both-passed (amountRows (a .scale) (magnitudeOf (a .coefficient)) (a .currency .0)) (sharingRows ws room) e in
-      let rows = clear (amountRows (a .scale) (magnitudeOf (a .coefficient)) (a .currency .0)) (both .0) in
+      let both = both-passed (amountRows (a .scale) (magnitudeOf (a .coefficient)) (a .currency)) (sharingRows ws room) e in
+      let rows = clear (amountRows (a .scale) (magnitudeOf (a .coefficient)) (a .currency)) (both .0) in
       (ltb-false L (magnitudeOf (a .coefficient)) (rows .1 .0), passed-shareable ws room (both .1))

@@ -37,7 +37,7 @@ magnitudeLimit = L
 
 -- the rows of a sharing: an amount's, and these
 abbrev pub allRows : Amount → List ℕ → ℕ → List Row
-allRows a ws room = amountRows (a .scale) (magnitudeOf (a .coefficient)) (a .currency .0) ++ sharingRows ws room
+allRows a ws room = amountRows (a .scale) (magnitudeOf (a .coefficient)) (a .currency) ++ sharingRows ws room
 
 -- the shares of an amount, or the refusal
 unfoldable pub sharedSaid : Amount → List ℕ → ℕ → Said (List ℤ)

@@ -1,6 +1,7 @@
 // Sharing of one amount by largest remainder.
 use amount::Amount;
 use amount::check_one;
+use currency::Currency;
 use refusal::Checked;
 use whole::is_negative;
 use whole::magnitude;
@@ -15,7 +16,7 @@ ghost use Rattle.sharing.specs.Shared.{sharingRows, sharedSaid, outAfter
 mod spread;
 
 // The first row of the table that holds for an amount's scale, magnitude and currency, these weights and an output of so many places.
-fn check(scale: u8, m: u64, currency: u8, weights: &[u32], room: usize) -> Checked
+fn check(scale: u8, m: u64, currency: Currency, weights: &[u32], room: usize) -> Checked
     ensures { λ r. ⌜ r ≡ checkOf (amountRows scale m currency ++ sharingRows (now (weights .entry)) room) ⌝ }
 {
     match check_one(scale, m, currency) {
@@ -30,7 +31,7 @@ pub fn share(amount: Amount, weights: &[u32], out: &mut [i64]) -> Checked
     ensures places { λ r. ⌜ now (out .exit) ≡ outAfter (sharedSaid amount (now (weights .entry)) (length (now (out .entry)))) (now (out .entry)) ⌝ }
 {
     let m = magnitude(amount.coefficient);
-    match check(amount.scale, m, amount.currency.0, weights, out.len()) {
+    match check(amount.scale, m, amount.currency, weights, out.len()) {
         Checked::Refused(refusal) => Checked::Refused(refusal),
         Checked::Passed => {
             spread::spread(is_negative(amount.coefficient), m, weights, out);

@@ -96,24 +96,24 @@ module _ (rule : Rule) (a : Amount) (r : ℕ) where
 -- the rows at what a call takes let the rule pass, or are its refusal
 module _ (a : Amount) (rate mode : ℕ) (m : ℕ) (magnitudes : m ≡ magnitudeOf (a .coefficient)) where
   abbrev rows : List Row
-  rows = takenRows (a .scale) m (a .currency .0) rate mode
+  rows = takenRows (a .scale) m (a .currency) rate mode
 
   module _ (split : Rule → Amount → ℕ → Split) where
-    pub said-refused : (choice : Choice) (r : Refusal) → meansChoice choice ≡ ruleSaid (a .scale) m (a .currency .0) rate mode → choice ≡ Refused r
+    pub said-refused : (choice : Choice) (r : Refusal) → meansChoice choice ≡ ruleSaid (a .scale) m (a .currency) rate mode → choice ≡ Refused r
         → splitSaid split a rate mode ≡ refuses (numberOf r) (blamedOf r)
     unfolding ruleSaid splitSaid
     said-refused choice r e refusal =
         rw (sym magnitudes)
         (same-refused (ruleOf mode) (made (split (ruleOf mode) a rate)) (numberOf r) (blamedOf r) rows (sym e ∙ ap meansChoice refusal))
 
-    said-chosen : (rule : Rule) → ruleSaid (a .scale) m (a .currency .0) rate mode ≡ gives rule → splitSaid split a rate mode ≡ made (split rule a rate)
+    said-chosen : (rule : Rule) → ruleSaid (a .scale) m (a .currency) rate mode ≡ gives rule → splitSaid split a rate mode ≡ made (split rule a rate)
     unfolding ruleSaid splitSaid
     said-chosen rule e =
         rw (sym magnitudes)
         (passed (made (split (ruleOf mode) a rate)) rows (let-pass (ruleOf mode) rule rows e)
         ∙ ap (λ (x : Rule). made (split x a rate)) (same-value (ruleOf mode) rule rows e))
 
-  within : (rule : Rule) → ruleSaid (a .scale) m (a .currency .0) rate mode ≡ gives rule → (m ≤ largest) × (rate ≤ million)
+  within : (rule : Rule) → ruleSaid (a .scale) m (a .currency) rate mode ≡ gives rule → (m ≤ largest) × (rate ≤ million)
   unfolding ruleSaid taxRows
   within rule e =
       let none = clear rows (let-pass (ruleOf mode) rule rows e) in (ltb-false largest m (none .1 .1 .0), ltb-false million rate (none .1 .1 .1 .1 .0))
@@ -123,11 +123,11 @@ pub record Call (a : Amount) (rate mode : ℕ) (sign : Bool) (m : ℕ) (rule : R
   pub signs : sign ≡ negative (a .coefficient)
   pub magnitudes : m ≡ magnitudeOf (a .coefficient)
   pub choice : Choice
-  pub said : meansChoice choice ≡ ruleSaid (a .scale) m (a .currency .0) rate mode
+  pub said : meansChoice choice ≡ ruleSaid (a .scale) m (a .currency) rate mode
   pub chosen : choice ≡ Chosen rule
 
 module _ {a : Amount} {rate mode : ℕ} {sign : Bool} {m : ℕ} {rule : Rule} (call : Call a rate mode sign m rule) where
-  has-rule : ruleSaid (a .scale) m (a .currency .0) rate mode ≡ gives rule
+  has-rule : ruleSaid (a .scale) m (a .currency) rate mode ≡ gives rule
   has-rule = sym (call .said) ∙ ap meansChoice (call .chosen)
 
   pub limits : (m ≤ largest) × (rate ≤ million)

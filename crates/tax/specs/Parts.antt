@@ -11,6 +11,7 @@ use Rattle.rounding.specs.declared.Rule.{Rule}
 use Rattle.rounding.specs.declared.Choice.{Choice}
 use Rattle.rounding.specs.declared.Choice.the-variants.{Chosen, Refused}
 use Rattle.rounding.specs.Modes.{badMode, ruleOf}
+use Rattle.currency.specs.declared.Currency.{Currency}
 use Rattle.amount.specs.declared.Amount.{Amount}
 use Rattle.amount.specs.Amounts.{overL}
 use Rattle.tax.specs.declared.Split.{Split}
@@ -22,11 +23,11 @@ meansChoice (Chosen rule) = gives rule
 meansChoice (Refused r) = refuses (numberOf r) (blamedOf r)
 
 -- rows 1 to 6 at what a call takes, and row 13 at what it makes
-abbrev pub takenRows : (scale m currency rate mode : ℕ) → List Row
+abbrev pub takenRows : (scale m : ℕ) → Currency → (rate mode : ℕ) → List Row
 takenRows scale m currency rate mode = row Mode (badMode mode) ∷ taxRows scale m currency rate
 
 abbrev pub rowsTaken : Amount → (rate mode : ℕ) → List Row
-rowsTaken a rate mode = takenRows (a .scale) (magnitudeOf (a .coefficient)) (a .currency .0) rate mode
+rowsTaken a rate mode = takenRows (a .scale) (magnitudeOf (a .coefficient)) (a .currency) rate mode
 
 abbrev pub rowsMade : Split → List Row
 rowsMade s =
@@ -36,7 +37,7 @@ rowsMade s =
     ∷ []
 
 -- the mode's rule behind the rows at what a call takes
-unfoldable pub ruleSaid : (scale m currency rate mode : ℕ) → Said Rule
+unfoldable pub ruleSaid : (scale m : ℕ) → Currency → (rate mode : ℕ) → Said Rule
 ruleSaid scale m currency rate mode = firstRow (takenRows scale m currency rate mode) (gives (ruleOf mode))
 
 -- a price like an amount, by its sign and the magnitudes of net and tax

@@ -11,8 +11,10 @@ use Rattle.whole.specs.Whole.{magnitudeOf}
 use Rattle.rounding.specs.declared.Rule.{Rule}
 use Rattle.rounding.specs.Modes.{badMode, ruleOf}
 use Rattle.rounding.specs.Leaf.{rounded}
+use Rattle.currency.specs.declared.Currency.{Currency}
+use Rattle.currency.specs.Table.{unknown}
 use Rattle.amount.specs.declared.Amount.{Amount}
-use Rattle.amount.specs.Amounts.{badScale, overL, unknown}
+use Rattle.amount.specs.Amounts.{badScale, overL}
 use Rattle.tax.specs.declared.Split.{Split}
 use Rattle.tax.specs.declared.Taxed.{Taxed}
 use Rattle.tax.specs.declared.Taxed.the-variants.{Value, Refused}
@@ -27,7 +29,7 @@ abbrev pub million : ℕ
 million = 1000000
 
 -- the rows behind row 1 and before row 13: an amount's, and row 6 at the rate
-unfoldable pub taxRows : (scale m currency rate : ℕ) → List Row
+unfoldable pub taxRows : (scale m : ℕ) → Currency → (rate : ℕ) → List Row
 taxRows scale m currency rate =
     row Scale (badScale scale) ∷ row Magnitude (overL m) ∷ row Unknown (unknown currency) ∷ row Rate (ltb million rate) ∷ []
 
@@ -60,7 +62,7 @@ made s =
 -- the answer for an amount and a rate, by the way that the price is taken apart
 unfoldable pub splitSaid : (Rule → Amount → ℕ → Split) → Amount → (rate mode : ℕ) → Said Split
 splitSaid split a rate mode =
-    firstRow (row Mode (badMode mode) ∷ taxRows (a .scale) (magnitudeOf (a .coefficient)) (a .currency .0) rate)
+    firstRow (row Mode (badMode mode) ∷ taxRows (a .scale) (magnitudeOf (a .coefficient)) (a .currency) rate)
     (made (split (ruleOf mode) a rate))
 
 abbrev pub fromNetSaid : Amount → (rate mode : ℕ) → Said Split

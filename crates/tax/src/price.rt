@@ -3,6 +3,7 @@ use crate::Split;
 use crate::Taxed;
 use amount::Amount;
 use amount::check_one;
+use currency::Currency;
 use refusal::Checked;
 use refusal::Refusal;
 use rounding::Choice;
@@ -23,7 +24,7 @@ ghost use Rattle.tax.specs.Parts.{meansChoice, ruleSaid, splitOf};
 const MILLION: u64 = 1_000_000;
 
 // Rows 2, 3 and 4 at the amount, and row 6 at the rate.
-fn check(scale: u8, m: u64, currency: u8, rate: u32) -> Checked
+fn check(scale: u8, m: u64, currency: Currency, rate: u32) -> Checked
     ensures { λ r. ⌜ r ≡ checkOf (taxRows scale m currency rate) ⌝ }
 {
     match check_one(scale, m, currency) {
@@ -37,7 +38,7 @@ fn check(scale: u8, m: u64, currency: u8, rate: u32) -> Checked
 }
 
 // The mode's rule, or the first of the rows 1 to 6 that holds.
-fn rule_for(scale: u8, m: u64, currency: u8, rate: u32, mode: u8) -> Choice
+fn rule_for(scale: u8, m: u64, currency: Currency, rate: u32, mode: u8) -> Choice
     ensures { λ r. ⌜ meansChoice r ≡ ruleSaid scale m currency rate mode ⌝ }
 {
     match rule_of(mode) {
@@ -84,7 +85,7 @@ pub fn tax_from_net(net: Amount, rate: u32, mode: u8) -> Taxed
 {
     let negative = is_negative(net.coefficient);
     let m = magnitude(net.coefficient);
-    match rule_for(net.scale, m, net.currency.0, rate, mode) {
+    match rule_for(net.scale, m, net.currency, rate, mode) {
         Choice::Refused(refusal) => Taxed::Refused(refusal),
         Choice::Chosen(rule) => {
             let tax = round(rule, negative, m * rate as u64, MILLION);
@@ -99,7 +100,7 @@ pub fn tax_from_gross(gross: Amount, rate: u32, mode: u8) -> Taxed
 {
     let negative = is_negative(gross.coefficient);
     let m = magnitude(gross.coefficient);
-    match rule_for(gross.scale, m, gross.currency.0, rate, mode) {
+    match rule_for(gross.scale, m, gross.currency, rate, mode) {
         Choice::Refused(refusal) => Taxed::Refused(refusal),
         Choice::Chosen(rule) => {
             let tax = round(rule, negative, m * rate as u64, MILLION + rate as u64);

@@ -1,6 +1,6 @@
 // A line of the table of currencies, field for field.
 use crate::MkbLine;
-use amount::Line;
+use currency::Line;
 ghost use mathlib.Core.Path.{_≡_};
 ghost use Rattle.morskebab.specs.Answers.{lineFlat};
 

@@ -44,7 +44,7 @@ checked : (c : tie.After-check)
 checked c =
     let a = c .before .before .before .before .args in
     c .check .ensures
-    ∙ ap (λ (m : ℕ). checkOf (amountRows (a .amount .scale) m (a .amount .currency .0) ++ sharingRows (now (a .weights)) (length (now (a .out))))) (asked (c .before))
+    ∙ ap (λ (m : ℕ). checkOf (amountRows (a .amount .scale) m (a .amount .currency) ++ sharingRows (now (a .weights)) (length (now (a .out))))) (asked (c .before))
 
 spread-requires : tie.Need-spread-requires
 spread-requires c κs =

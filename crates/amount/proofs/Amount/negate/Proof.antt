@@ -36,7 +36,7 @@ own s = search needs
 
 -- the rows of an amount
 abbrev rowsOfOne : Amount → List Row
-rowsOfOne a = amountRows (a .scale) (magnitudeOf (a .coefficient)) (a .currency .0)
+rowsOfOne a = amountRows (a .scale) (magnitudeOf (a .coefficient)) (a .currency)
 
 -- what `check_one` was asked are these
 told : (c : tie.After-check-one) → c .check-one .result ≡ checkOf (rowsOfOne (c .before .before .before .before .args .self))
@@ -44,7 +44,7 @@ told c =
     let s = c .before .before .before .before in
     let a = s .args .self in
     c .check-one .ensures
-    ∙ ap (λ (m : ℕ). checkOf (amountRows (a .scale) m (a .currency .0)))
+    ∙ ap (λ (m : ℕ). checkOf (amountRows (a .scale) m (a .currency)))
     (read-magnitude (a .coefficient) (c .before .magnitude .result) (own s) (c .before .magnitude .ensures))
 
 opposite-requires : tie.Need-opposite-requires
@@ -53,7 +53,7 @@ opposite-requires c κs =
     let s = k .before .before .before .before in
     let a = s .args .self in
     rw (toZ-ofZ w64 (a .coefficient) (own s))
-    (sound (a .scale) (magnitudeOf (a .coefficient)) (a .currency .0) (sym (told k) ∙ c .before .enum-told .given .1) .within)
+    (sound (a .scale) (magnitudeOf (a .coefficient)) (a .currency) (sym (told k) ∙ c .before .enum-told .given .1) .within)
 
 -- the amount with a coefficient
 abbrev made : Amount → ℤ → Amount

@@ -50,7 +50,7 @@ ordered-requires c κs =
     let s = e .before .before .before .before .before .before .before in
     let a = s .args .self in
     let b = s .args .other in
-    let limits = pair (a .scale) (b .scale) (magnitudeOf (a .coefficient)) (magnitudeOf (b .coefficient)) (a .currency .0) (b .currency .0)
+    let limits = pair (a .scale) (b .scale) (magnitudeOf (a .coefficient)) (magnitudeOf (b .coefficient)) (a .currency) (b .currency)
     (sym (told (e .before .before)) ∙ e .enum-told .given .1) in
     rw (toZ-ofZ w64 (a .coefficient) (own s), toZ-ofZ w64 (b .coefficient) (other s))
     (limits .first .within, limits .first .scaled, limits .second .within, limits .second .scaled)

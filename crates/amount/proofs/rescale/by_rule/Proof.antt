@@ -36,7 +36,7 @@ own s = search needs
 
 -- the rows of an amount and a new scale
 abbrev rowsAt : Amount → ℕ → List Row
-rowsAt a t = rescaleRows (a .scale) t (magnitudeOf (a .coefficient)) (a .currency .0)
+rowsAt a t = rescaleRows (a .scale) t (magnitudeOf (a .coefficient)) (a .currency)
 
 -- what `check` was asked are these
 told : (c : tie.After-check)
@@ -45,7 +45,7 @@ told c =
     let s = c .before .before .before .before in
     let a = s .args .amount in
     c .check .ensures
-    ∙ ap (λ (m : ℕ). checkOf (rescaleRows (a .scale) (s .args .scale) m (a .currency .0)))
+    ∙ ap (λ (m : ℕ). checkOf (rescaleRows (a .scale) (s .args .scale) m (a .currency)))
     (read-magnitude (a .coefficient) (c .before .magnitude .result) (own s) (c .before .magnitude .ensures))
 
 moved-requires : tie.Need-moved-requires
@@ -53,7 +53,7 @@ moved-requires c κs =
     let k = c .before .before .before in
     let s = k .before .before .before .before in
     let a = s .args .amount in
-    let limits = rescalable (a .scale) (s .args .scale) (magnitudeOf (a .coefficient)) (a .currency .0) (sym (told k) ∙ c .before .enum-told .given .1) in
+    let limits = rescalable (a .scale) (s .args .scale) (magnitudeOf (a .coefficient)) (a .currency) (sym (told k) ∙ c .before .enum-told .given .1) in
     rw (toZ-ofZ w64 (a .coefficient) (own s)) (limits .0 .within, limits .0 .scaled, limits .1)
 
 within-requires : tie.Need-within-requires

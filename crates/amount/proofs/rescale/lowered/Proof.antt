@@ -10,7 +10,7 @@ use Rattle.whole.specs.Whole.{negative, magnitudeOf}
 use Rattle.whole.proofs.Laws.{read-back}
 use Rattle.rounding.specs.Leaf.{roundedMagnitude}
 use Rattle.rounding.proofs.Bounds.{at-most}
-use Rattle.amount.proofs.Tables.{power-of-ten}
+use Rattle.currency.proofs.Tables.{power-of-ten}
 use Rattle.amount.proofs.Scales.{held-rounded}
 use Rattle.amount.proofs.rescale.lowered.Statement.{statement}
 use Rattle.amount.proofs.rescale.lowered.Tie as tie

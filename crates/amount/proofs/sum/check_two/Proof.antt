@@ -27,28 +27,33 @@ unfolding pairRows
 returns-5 c =
     let b = c .before .before in
     simp
-    (le-ltb _ _ (b .before .before .if1 .left), le-ltb _ _ (b .before .if2 .left), le-ltb _ _ (b .if3 .left), le-ltb _ _ (c .before .if4 .left), lt-ltb _ _ (c .if5 .taken))
+    (le-ltb _ _ (b .before .before .before .if1 .left), le-ltb _ _ (b .before .before .if2 .left), le-ltb _ _ (b .before .if3 .left), le-ltb _ _ (b .if4 .left), lt-ltb _ _ (c .if5 .taken))
 
 returns-6 : tie.Need-returns-6
 unfolding pairRows
 returns-6 c =
-    let b = c .before .before .before in
+    let k = c .before .before in
+    let b = k .before .before in
     simp
-    (le-ltb _ _ (b .before .before .if1 .left), le-ltb _ _ (b .before .if2 .left), le-ltb _ _ (b .if3 .left), le-ltb _ _ (c .before .before .if4 .left), le-ltb _ _ (c .before .if5 .left), lt-ltb _ _ (c .if6 .taken))
+    (le-ltb _ _ (b .before .before .before .if1 .left), le-ltb _ _ (b .before .before .if2 .left), le-ltb _ _ (b .before .if3 .left), le-ltb _ _ (b .if4 .left), le-ltb _ _ (k .if5 .left), lt-ltb _ _ (c .if6 .taken))
 
 returns-7 : tie.Need-returns-7
 unfolding pairRows
 returns-7 c =
-    let b = c .before .before .before .before in
+    let l = c .before .before .before in
+    let k = l .before .before in
+    let b = k .before .before in
     simp
-    (le-ltb _ _ (b .before .before .if1 .left), le-ltb _ _ (b .before .if2 .left), le-ltb _ _ (b .if3 .left), le-ltb _ _ (c .before .before .before .if4 .left), le-ltb _ _ (c .before .before .if5 .left), le-ltb _ _ (c .before .if6 .left), ne-eqb _ _ (c .if7 .taken))
+    (le-ltb _ _ (b .before .before .before .if1 .left), le-ltb _ _ (b .before .before .if2 .left), le-ltb _ _ (b .before .if3 .left), le-ltb _ _ (b .if4 .left), le-ltb _ _ (k .if5 .left), le-ltb _ _ (l .if6 .left), ne-eqb _ _ (c .if7 .taken))
 
 returns-8 : tie.Need-returns-8
 unfolding pairRows
 returns-8 c =
-    let b = c .before .before .before .before in
+    let l = c .before .before .before in
+    let k = l .before .before in
+    let b = k .before .before in
     simp
-    (le-ltb _ _ (b .before .before .if1 .left), le-ltb _ _ (b .before .if2 .left), le-ltb _ _ (b .if3 .left), le-ltb _ _ (c .before .before .before .if4 .left), le-ltb _ _ (c .before .before .if5 .left), le-ltb _ _ (c .before .if6 .left), eq-eqb _ _ (c .if7 .left))
+    (le-ltb _ _ (b .before .before .before .if1 .left), le-ltb _ _ (b .before .before .if2 .left), le-ltb _ _ (b .before .if3 .left), le-ltb _ _ (b .if4 .left), le-ltb _ _ (k .if5 .left), le-ltb _ _ (l .if6 .left), eq-eqb _ _ (c .if7 .left))
 
 pub check-two-spec : {M : Type 1} → statement M
 check-two-spec =

@@ -8,7 +8,7 @@ use mir.Syntax.{w64}
 use Rattle.whole.specs.Whole.{negative, magnitudeOf}
 use Rattle.whole.proofs.Laws.{read-back}
 use Rattle.amount.specs.Amounts.{largest}
-use Rattle.amount.proofs.Tables.{power-of-ten}
+use Rattle.currency.proofs.Tables.{power-of-ten}
 use Rattle.amount.proofs.Scales.{held-product, raised-most}
 use Rattle.amount.proofs.sum.raised.Statement.{statement}
 use Rattle.amount.proofs.sum.raised.Tie as tie

@@ -10,7 +10,8 @@ use mir.ValLaws.{toZ-ofZ}
 use Rattle.refusal.specs.declared.Refusal.the-variants.{Magnitude, Unknown, Negative}
 use Rattle.refusal.specs.Rows.{row, checkOf}
 use Rattle.whole.specs.Whole.{negative}
-use Rattle.amount.specs.Amounts.{overL, unknown}
+use Rattle.amount.specs.Amounts.{overL}
+use Rattle.currency.specs.Table.{unknown}
 use Rattle.book.specs.Books.{weightRows}
 use Rattle.book.proofs.checks.check_book.Statement.{statement}
 use Rattle.book.proofs.checks.check_book.Tie as tie
@@ -35,7 +36,7 @@ returns c =
     let s = c .before .before .before .before .before .before in
     let b = s .args .book in
     c .check-parts .ensures
-    ∙ ap₂ (λ (n : ℕ) (net : Bool). checkOf (row Magnitude (overL n) ∷ row Unknown (unknown (b .currency .0)) ∷ weightRows (b .count) (b .weights) ++ (row Negative net ∷ [])))
+    ∙ ap₂ (λ (n : ℕ) (net : Bool). checkOf (row Magnitude (overL n) ∷ row Unknown (unknown (b .currency)) ∷ weightRows (b .count) (b .weights) ++ (row Negative net ∷ [])))
     (c .before .before .before .before .net-of .ensures) (c .before .is-negative .ensures ∙ ap negative (toZ-ofZ w64 (b .net) (net-fits s)))
 
 pub check-book-spec : {M : Type 1} → statement M

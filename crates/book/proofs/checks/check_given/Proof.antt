@@ -46,49 +46,58 @@ returns-4 c =
 returns-5 : tie.Need-returns-5
 unfolding givenRows
 returns-5 c =
+    let b = c .before .before in
     rw (
-      le-ltb _ _ (c .before .before .before .before .before .if1 .left),
-      sym (c .before .before .before .before .not-own-digits .ensures) ∙ c .before .before .before .if2 .left,
-      le-ltb _ _ (c .before .before .if3 .left),
-      le-ltb _ _ (c .before .if4 .left),
+      le-ltb _ _ (b .before .before .before .before .if1 .left),
+      sym (b .before .before .before .not-own-digits .ensures) ∙ b .before .before .if2 .left,
+      le-ltb _ _ (b .before .if3 .left),
+      le-ltb _ _ (b .if4 .left),
       lt-ltb _ _ (c .if5 .taken),
     )
 
 returns-6 : tie.Need-returns-6
 unfolding givenRows
 returns-6 c =
+    let k = c .before .before in
+    let b = k .before .before in
     rw (
-      le-ltb _ _ (c .before .before .before .before .before .before .if1 .left),
-      sym (c .before .before .before .before .before .not-own-digits .ensures) ∙ c .before .before .before .before .if2 .left,
-      le-ltb _ _ (c .before .before .before .if3 .left),
-      le-ltb _ _ (c .before .before .if4 .left),
-      le-ltb _ _ (c .before .if5 .left),
+      le-ltb _ _ (b .before .before .before .before .if1 .left),
+      sym (b .before .before .before .not-own-digits .ensures) ∙ b .before .before .if2 .left,
+      le-ltb _ _ (b .before .if3 .left),
+      le-ltb _ _ (b .if4 .left),
+      le-ltb _ _ (k .if5 .left),
       lt-ltb _ _ (c .if6 .taken),
     )
 
 returns-7 : tie.Need-returns-7
 unfolding givenRows
 returns-7 c =
+    let l = c .before .before .before in
+    let k = l .before .before in
+    let b = k .before .before in
     rw (
-      le-ltb _ _ (c .before .before .before .before .before .before .before .if1 .left),
-      sym (c .before .before .before .before .before .before .not-own-digits .ensures) ∙ c .before .before .before .before .before .if2 .left,
-      le-ltb _ _ (c .before .before .before .before .if3 .left),
-      le-ltb _ _ (c .before .before .before .if4 .left),
-      le-ltb _ _ (c .before .before .if5 .left),
-      le-ltb _ _ (c .before .if6 .left),
+      le-ltb _ _ (b .before .before .before .before .if1 .left),
+      sym (b .before .before .before .not-own-digits .ensures) ∙ b .before .before .if2 .left,
+      le-ltb _ _ (b .before .if3 .left),
+      le-ltb _ _ (b .if4 .left),
+      le-ltb _ _ (k .if5 .left),
+      le-ltb _ _ (l .if6 .left),
       ap not (ne-eqb _ _ (c .if7 .taken)),
     )
 
 returns-8 : tie.Need-returns-8
 unfolding givenRows
 returns-8 c =
+    let l = c .before .before .before in
+    let k = l .before .before in
+    let b = k .before .before in
     rw (
-      le-ltb _ _ (c .before .before .before .before .before .before .before .if1 .left),
-      sym (c .before .before .before .before .before .before .not-own-digits .ensures) ∙ c .before .before .before .before .before .if2 .left,
-      le-ltb _ _ (c .before .before .before .before .if3 .left),
-      le-ltb _ _ (c .before .before .before .if4 .left),
-      le-ltb _ _ (c .before .before .if5 .left),
-      le-ltb _ _ (c .before .if6 .left),
+      le-ltb _ _ (b .before .before .before .before .if1 .left),
+      sym (b .before .before .before .not-own-digits .ensures) ∙ b .before .before .if2 .left,
+      le-ltb _ _ (b .before .if3 .left),
+      le-ltb _ _ (b .if4 .left),
+      le-ltb _ _ (k .if5 .left),
+      le-ltb _ _ (l .if6 .left),
       ap not (eq-eqb _ _ (c .if7 .left)),
     )
 

@@ -52,7 +52,7 @@ net-fits c = search needs
 
 -- the rows in front, those behind, and the first check's answer
 abbrev given : Book → Amount → List Row
-given b a = givenRows (a .scale) (unitsOf a) (a .currency .0) (netOf b) (b .currency .0)
+given b a = givenRows (a .scale) (unitsOf a) (a .currency) (netOf b) (b .currency)
 
 abbrev standing : Book → Amount → List Row
 standing b a = weightRows (b .count) (b .weights) ++ signRows (negative (a .coefficient)) (negative (b .net))
@@ -62,7 +62,7 @@ front : (c : tie.After-check-given)
 front c =
     let a = c .before .before .before .args in
     c .check-given .ensures
-    ∙ ap₂ (λ (m n : ℕ). checkOf (givenRows (a .amount .scale) m (a .amount .currency .0) n (a .book .currency .0)))
+    ∙ ap₂ (λ (m n : ℕ). checkOf (givenRows (a .amount .scale) m (a .amount .currency) n (a .book .currency)))
     (c .before .before .units-of .ensures) (c .before .net-of .ensures)
 
 returns : tie.Need-returns

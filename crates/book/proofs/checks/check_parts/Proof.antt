@@ -15,7 +15,7 @@ returns : tie.Need-returns
 returns c = rw (lt-ltb _ _ (c .if1 .taken))
 
 returns-2 : tie.Need-returns-2
-returns-2 c = rw (le-ltb _ _ (c .before .if1 .left), lt-ltb _ _ (c .if2 .taken))
+returns-2 c = rw (le-ltb _ _ (c .before .before .if1 .left), lt-ltb _ _ (c .if2 .taken))
 
 check-weights-requires : tie.Need-check-weights-requires
 check-weights-requires c κs = search needs
@@ -29,23 +29,23 @@ enum-told c = search needs
 returns-3 : tie.Need-returns-3
 returns-3 c =
     let s = c .before .before .before in
-    let a = s .before .before .before .args in
-    rw (le-ltb _ _ (s .before .before .if1 .left), le-ltb _ _ (s .before .if2 .left))
+    let a = s .before .before .before .before .args in
+    rw (le-ltb _ _ (s .before .before .before .if1 .left), le-ltb _ _ (s .before .if2 .left))
     (sym (front-refused (weightRows (a .count) (a .weights)) (row Negative (a .net) ∷ []) (c .before .refusal .given .0 .0) (sym (s .check-weights .ensures) ∙ c .before .refusal .given .1)))
 
 returns-4 : tie.Need-returns-4
 returns-4 c =
     let s = c .before .before .before in
-    let a = s .before .before .before .args in
-    rw (le-ltb _ _ (s .before .before .if1 .left), le-ltb _ _ (s .before .if2 .left))
+    let a = s .before .before .before .before .args in
+    rw (le-ltb _ _ (s .before .before .before .if1 .left), le-ltb _ _ (s .before .if2 .left))
     (sym (front-passed (weightRows (a .count) (a .weights)) (row Negative (a .net) ∷ []) (sym (s .check-weights .ensures) ∙ c .before .enum-told .given .1)
     ∙ ap (λ (s : Bool). checkOf (row Negative s ∷ [])) (c .if3 .taken)))
 
 returns-5 : tie.Need-returns-5
 returns-5 c =
     let s = c .before .before .before in
-    let a = s .before .before .before .args in
-    rw (le-ltb _ _ (s .before .before .if1 .left), le-ltb _ _ (s .before .if2 .left))
+    let a = s .before .before .before .before .args in
+    rw (le-ltb _ _ (s .before .before .before .if1 .left), le-ltb _ _ (s .before .if2 .left))
     (sym (front-passed (weightRows (a .count) (a .weights)) (row Negative (a .net) ∷ []) (sym (s .check-weights .ensures) ∙ c .before .enum-told .given .1)
     ∙ ap (λ (s : Bool). checkOf (row Negative s ∷ [])) (c .if3 .left)))
 

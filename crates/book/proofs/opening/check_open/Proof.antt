@@ -18,7 +18,7 @@ returns c = rw (lt-ltb _ _ (c .if1 .taken))
 returns-2 : tie.Need-returns-2
 unfolding weightRows
 returns-2 c =
-    let ws = c .before .before .before .args .weights .now in
+    let ws = c .before .before .before .before .args .weights .now in
     let some : 1 ≤ length ws = omega arith in
     rw (le-ltb _ _ (c .before .if1 .left), le-ltb (length ws) 1 some, lt-ltb _ _ (c .if2 .taken))
 
@@ -30,7 +30,7 @@ check-weights-requires c κs = search needs
 
 returns-3 : tie.Need-returns-3
 returns-3 c =
-    let ws = c .before .before .before .before .before .args .weights .now in
+    let ws = c .before .before .before .before .before .before .args .weights .now in
     rw (le-ltb _ _ (c .before .before .before .if1 .left))
     (c .check-weights .ensures ∙ ap (λ (l : List ℕ). checkOf (weightRows (length ws) l)) (c .before .placed .ensures) ∙ padded-rows ws (16 - length ws))
 

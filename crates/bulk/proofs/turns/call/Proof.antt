@@ -6,7 +6,7 @@ use mir.Syntax.{w64}
 use mir.Val.{SFits, toZ, ofZ}
 use mir.ValLaws.{toZ-ofZ}
 use Rattle.amount.specs.declared.Amount.{Amount}
-use Rattle.amount.specs.declared.Line.{Line}
+use Rattle.currency.specs.declared.Line.{Line}
 use Rattle.book.specs.Moves.{Posts, Refunds}
 use Rattle.bulk.specs.Runs.{amountOf}
 use Rattle.bulk.proofs.Call.{call-posts, call-refunds}

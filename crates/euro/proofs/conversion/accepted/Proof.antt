@@ -11,14 +11,16 @@ use Rattle.refusal.specs.Rows.{checkOf}
 use Rattle.refusal.proofs.Check.{clear}
 use Rattle.whole.specs.Whole.{negative, magnitudeOf, signedOf}
 use Rattle.whole.proofs.Laws.{sign-and-magnitude}
-use Rattle.amount.specs.Amounts.{largest, lastCurrency}
+use Rattle.currency.specs.declared.Currency.{Currency}
+use Rattle.currency.specs.Table.{lastCurrency}
+use Rattle.amount.specs.Amounts.{largest}
 use Rattle.euro.specs.Conversion.{convertRows, exchanged, converted}
 use Rattle.euro.proofs.conversion.accepted.Statement.{statement}
 use Rattle.euro.proofs.conversion.accepted.Tie as tie
 
 returns : tie.Need-returns
 unfolding converted
-returns c = let a = c .before .args in sym (rw (eq-eqb (a .amount .currency .0) (a .to) (c .if1 .taken)))
+returns c = let a = c .before .before .before .before .args in sym (rw (eq-eqb (a .amount .currency .0) (a .to .0) (c .if1 .taken)))
 
 is-negative-requires : tie.Need-is-negative-requires
 is-negative-requires c κs = search needs
@@ -27,38 +29,38 @@ magnitude-requires : tie.Need-magnitude-requires
 magnitude-requires c κs = search needs
 
 -- what passed the check
-within : (scale m from to : ℕ) → checkOf (convertRows scale m from to) ≡ Passed → (from ≤ lastCurrency) × (to ≤ lastCurrency) × (m ≤ largest)
+within : (scale m : ℕ) (from to : Currency) → checkOf (convertRows scale m from to) ≡ Passed → (from .0 ≤ lastCurrency) × (to .0 ≤ lastCurrency) × (m ≤ largest)
 unfolding convertRows
 within scale m from to e =
     let none = clear (convertRows scale m from to) e .1 .1 in
-    (ltb-false lastCurrency from (none .1 .0), ltb-false lastCurrency to (none .1 .1 .0), ltb-false largest m (none .0))
+    (ltb-false lastCurrency (from .0) (none .1 .0), ltb-false lastCurrency (to .0) (none .1 .1 .0), ltb-false largest m (none .0))
 
 -- what `magnitude` and `is_negative` answered
 asked : (c : tie.After-magnitude)
-    → (c .before .before .is-negative .result ≡ negative (c .before .before .before .before .before .args .amount .coefficient))
-    × (c .magnitude .result ≡ magnitudeOf (c .before .before .before .before .before .args .amount .coefficient))
+    → (c .before .before .is-negative .result ≡ negative (c .before .before .before .before .before .before .before .before .args .amount .coefficient))
+    × (c .magnitude .result ≡ magnitudeOf (c .before .before .before .before .before .before .before .before .args .amount .coefficient))
 asked c =
-    let z = c .before .before .before .before .before .args .amount .coefficient in
+    let z = c .before .before .before .before .before .before .before .before .args .amount .coefficient in
     let fits : SFits w64 z = search needs in
     let read = toZ-ofZ w64 z fits in
     (c .before .before .is-negative .ensures ∙ ap negative read, c .magnitude .ensures ∙ ap magnitudeOf read)
 
 exchange-requires : tie.Need-exchange-requires
 exchange-requires c κs =
-    let s = c .before .before .before .before .before in
+    let s = c .before .before .before .before .before .before .before .before in
     let a = s .args in
-    let limits = within (a .amount .scale) (magnitudeOf (a .amount .coefficient)) (a .amount .currency .0) (a .to) (s .pre) in
+    let limits = within (a .amount .scale) (magnitudeOf (a .amount .coefficient)) (a .amount .currency) (a .to) (s .pre) in
     (limits .0, limits .1, rw (asked c .1) (limits .2))
 
 returns-2 : tie.Need-returns-2
 unfolding converted
 returns-2 c =
     let e = c .before .before .before .before .before in
-    let a = e .before .args in
+    let a = e .before .before .before .before .args in
     c .exchange .ensures
-    ∙ ap (exchanged (a .amount .currency .0) (a .to))
+    ∙ ap (exchanged (a .amount .currency) (a .to))
     (ap₂ signedOf (asked (c .before) .0) (asked (c .before) .1) ∙ sign-and-magnitude (a .amount .coefficient))
-    ∙ sym (rw (ne-eqb (a .amount .currency .0) (a .to) (e .if1 .left)))
+    ∙ sym (rw (ne-eqb (a .amount .currency .0) (a .to .0) (e .if1 .left)))
 
 pub accepted-spec : {M : Type 1} → statement M
 accepted-spec =

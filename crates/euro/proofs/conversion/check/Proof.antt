@@ -26,32 +26,37 @@ returns-3 c =
 returns-4 : tie.Need-returns-4
 unfolding convertRows
 returns-4 c =
+    let b = c .before .before in
     simp (
-      le-ltb _ _ (c .before .before .before .before .if1 .left),
-      sym (c .before .before .before .not-own-digits .ensures) ∙ c .before .before .if2 .left,
-      le-ltb _ _ (c .before .if3 .left),
+      le-ltb _ _ (b .before .before .before .if1 .left),
+      sym (b .before .before .not-own-digits .ensures) ∙ b .before .if2 .left,
+      le-ltb _ _ (b .if3 .left),
       lt-ltb _ _ (c .if4 .taken),
     )
 
 returns-5 : tie.Need-returns-5
 unfolding convertRows
 returns-5 c =
+    let k = c .before .before in
+    let b = k .before .before in
     simp (
-      le-ltb _ _ (c .before .before .before .before .before .if1 .left),
-      sym (c .before .before .before .before .not-own-digits .ensures) ∙ c .before .before .before .if2 .left,
-      le-ltb _ _ (c .before .before .if3 .left),
-      le-ltb _ _ (c .before .if4 .left),
+      le-ltb _ _ (b .before .before .before .if1 .left),
+      sym (b .before .before .not-own-digits .ensures) ∙ b .before .if2 .left,
+      le-ltb _ _ (b .if3 .left),
+      le-ltb _ _ (k .if4 .left),
       lt-ltb _ _ (c .if5 .taken),
     )
 
 returns-6 : tie.Need-returns-6
 unfolding convertRows
 returns-6 c =
+    let k = c .before .before in
+    let b = k .before .before in
     simp (
-      le-ltb _ _ (c .before .before .before .before .before .if1 .left),
-      sym (c .before .before .before .before .not-own-digits .ensures) ∙ c .before .before .before .if2 .left,
-      le-ltb _ _ (c .before .before .if3 .left),
-      le-ltb _ _ (c .before .if4 .left),
+      le-ltb _ _ (b .before .before .before .if1 .left),
+      sym (b .before .before .not-own-digits .ensures) ∙ b .before .if2 .left,
+      le-ltb _ _ (b .if3 .left),
+      le-ltb _ _ (k .if4 .left),
       le-ltb _ _ (c .if5 .left),
     )
 

@@ -29,13 +29,13 @@ asked : (c : tie.After-check)
     → c .check .result
     ≡ checkOf
     (convertRows (c .before .before .before .args .amount .scale) (magnitudeOf (c .before .before .before .args .amount .coefficient))
-    (c .before .before .before .args .amount .currency .0) (c .before .before .before .args .to .0))
+    (c .before .before .before .args .amount .currency) (c .before .before .before .args .to))
 asked c =
     let a = c .before .before .before .args in
     let z = a .amount .coefficient in
     let fits : SFits w64 z = search needs in
     c .check .ensures
-    ∙ ap (λ (m : ℕ). checkOf (convertRows (a .amount .scale) m (a .amount .currency .0) (a .to .0)))
+    ∙ ap (λ (m : ℕ). checkOf (convertRows (a .amount .scale) m (a .amount .currency) (a .to)))
     (c .before .magnitude .ensures ∙ ap magnitudeOf (toZ-ofZ w64 z fits))
 
 accepted-requires : tie.Need-accepted-requires
@@ -47,8 +47,8 @@ returns c =
     let s = c .before .before .before in
     let a = s .before .before .before .args in
     sym
-    (refused (converted (a .amount) (a .to .0))
-    (convertRows (a .amount .scale) (magnitudeOf (a .amount .coefficient)) (a .amount .currency .0) (a .to .0))
+    (refused (converted (a .amount) (a .to))
+    (convertRows (a .amount .scale) (magnitudeOf (a .amount .coefficient)) (a .amount .currency) (a .to))
     (c .before .refusal .given .0 .0) (sym (asked s) ∙ c .before .refusal .given .1))
 
 returns-2 : tie.Need-returns-2
@@ -57,8 +57,8 @@ returns-2 c =
     let s = c .before .before .before in
     let a = s .before .before .before .args in
     c .accepted .ensures
-    ∙ sym (passed (converted (a .amount) (a .to .0))
-    (convertRows (a .amount .scale) (magnitudeOf (a .amount .coefficient)) (a .amount .currency .0) (a .to .0))
+    ∙ sym (passed (converted (a .amount) (a .to))
+    (convertRows (a .amount .scale) (magnitudeOf (a .amount .coefficient)) (a .amount .currency) (a .to))
     (sym (asked s) ∙ c .before .enum-told .given .1))
 
 pub convert-spec : {M : Type 1} → statement M

@@ -2,7 +2,8 @@
 use mathlib.Core.Path.{sym, _∙_, ap}
 use borrow.Author.Needs.{needs}
 use borrow.Author.Tests.{eq-eqb, ne-eqb}
-use Rattle.euro.specs.Conversion.{euro, settled, exchanged}
+use Rattle.currency.specs.Names.{EUR}
+use Rattle.euro.specs.Conversion.{settled, exchanged}
 use Rattle.euro.proofs.conversion.exchange.Statement.{statement}
 use Rattle.euro.proofs.conversion.exchange.Tie as tie
 
@@ -16,8 +17,8 @@ returns : tie.Need-returns
 unfolding exchanged
 returns c =
     let s = c .before .before in
-    let a = s .before .args in
-    c .settle .ensures ∙ ap (settled (a .to)) (c .before .from-euro .ensures .0) ∙ sym (rw (eq-eqb (a .from) euro (s .if1 .taken)))
+    let a = s .before .before .args in
+    c .settle .ensures ∙ ap (settled (a .to)) (c .before .from-euro .ensures .0) ∙ sym (rw (eq-eqb (a .from .0) (EUR .0) (s .if1 .taken)))
 
 to-euro-requires : tie.Need-to-euro-requires
 to-euro-requires c κs = search needs
@@ -29,9 +30,10 @@ returns-2 : tie.Need-returns-2
 unfolding exchanged
 returns-2 c =
     let s = c .before .before in
-    let a = s .before .before .args in
+    let k = s .before .before in
+    let a = k .before .before .args in
     c .settle2 .ensures ∙ ap (settled (a .to)) (c .before .to-euro .ensures .0)
-    ∙ sym (rw (ne-eqb (a .from) euro (s .before .if1 .left), eq-eqb (a .to) euro (s .if2 .taken)))
+    ∙ sym (rw (ne-eqb (a .from .0) (EUR .0) (k .if1 .left), eq-eqb (a .to .0) (EUR .0) (s .if2 .taken)))
 
 through-euro-requires : tie.Need-through-euro-requires
 through-euro-requires c κs = search needs
@@ -40,8 +42,9 @@ returns-3 : tie.Need-returns-3
 unfolding exchanged
 returns-3 c =
     let s = c .before in
-    let a = s .before .before .args in
-    c .through-euro .ensures ∙ sym (rw (ne-eqb (a .from) euro (s .before .if1 .left), ne-eqb (a .to) euro (s .if2 .left)))
+    let k = s .before .before in
+    let a = k .before .before .args in
+    c .through-euro .ensures ∙ sym (rw (ne-eqb (a .from .0) (EUR .0) (k .if1 .left), ne-eqb (a .to .0) (EUR .0) (s .if2 .left)))
 
 pub exchange-spec : {M : Type 1} → statement M
 exchange-spec =

@@ -6,8 +6,9 @@ use borrow.Author.Needs.{needs}
 use lib.IntN.{ℤ}
 use Rattle.refusal.specs.Rows.{Said}
 use Rattle.whole.proofs.Laws.{held-within, read-back}
+use Rattle.currency.specs.declared.Currency.{Currency}
+use Rattle.currency.specs.declared.Line.{Line}
 use Rattle.amount.specs.declared.Amount.{Amount}
-use Rattle.amount.specs.declared.Line.{Line}
 use Rattle.amount.specs.Amounts.{limited}
 use Rattle.euro.proofs.conversion.settle.Statement.{statement}
 use Rattle.euro.proofs.conversion.settle.Tie as tie
@@ -22,8 +23,8 @@ within-requires : tie.Need-within-requires
 within-requires c κs = search needs
 
 -- the amount by its digits and its coefficient
-abbrev settledAt : (to digits : ℕ) → ℤ → Said Amount
-settledAt to digits n = limited n (record { currency = record { 0 = to }; scale = digits; coefficient = n })
+abbrev settledAt : Currency → (digits : ℕ) → ℤ → Said Amount
+settledAt to digits n = limited n (record { currency = to; scale = digits; coefficient = n })
 
 returns : tie.Need-returns
 returns c =

@@ -10,19 +10,20 @@ use Rattle.refusal.specs.Rows.{Said, refuses, row, firstRow}
 use Rattle.refusal.specs.declared.Refusal.the-variants.{Limit}
 use Rattle.whole.specs.Whole.{magnitudeOf, signedOf}
 use Rattle.whole.proofs.Laws.{magnitude-signed}
+use Rattle.currency.specs.declared.Currency.{Currency}
+use Rattle.currency.specs.Table.{lineOf}
 use Rattle.amount.specs.declared.Amount.{Amount}
 use Rattle.amount.specs.Amounts.{largest, overL}
-use Rattle.amount.specs.Table.{lineOf}
 use Rattle.euro.specs.Steps.{fromEuro, stepDecimals}
 use Rattle.euro.specs.Conversion.{settled}
 use Rattle.euro.proofs.conversion.through_euro.Statement.{statement}
 use Rattle.euro.proofs.conversion.through_euro.Tie as tie
 
 -- what follows the euro step
-abbrev onward : ℕ → ℤ → Said Amount
+abbrev onward : Currency → ℤ → Said Amount
 onward to step = firstRow (row Limit (overL (magnitudeOf step)) ∷ []) (settled to (fromEuro (lineOf to) stepDecimals step))
 
-module _ (to : ℕ) (sign : Bool) (m : ℕ) where
+module _ (to : Currency) (sign : Bool) (m : ℕ) where
   over : largest < m → refuses 13 0 ≡ onward to (signedOf sign m)
   over h = rw (magnitude-signed sign m, lt-ltb largest m h)
 

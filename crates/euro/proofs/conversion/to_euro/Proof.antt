@@ -8,8 +8,8 @@ use Rattle.whole.specs.Whole.{signedOf}
 use Rattle.rounding.specs.declared.Rule.the-variants.{HalfUp}
 use Rattle.rounding.specs.Leaf.{roundedMagnitude}
 use Rattle.rounding.proofs.Bounds.{at-most}
-use Rattle.amount.specs.declared.Line.{Line}
-use Rattle.amount.proofs.Tables.{Good, in-table}
+use Rattle.currency.specs.declared.Line.{Line}
+use Rattle.currency.proofs.Tables.{Good, in-table}
 use Rattle.euro.specs.Steps.{toEuro}
 use Rattle.euro.proofs.CommonFactor.{to-euro-is, to-euro-within}
 use Rattle.euro.proofs.conversion.to_euro.Statement.{statement}

@@ -52,7 +52,7 @@ accrued-requires c κs =
     let told = counted .before in
     let s = told .before .before in
     let a = s .before .before .before .before .before .args in
-    accrues (a .principal .scale) (s .before .magnitude .result) (a .principal .currency .0) (a .rate) (a .basis) (a .start) (a .end) (days .0 .0)
+    accrues (a .principal .scale) (s .before .magnitude .result) (a .principal .currency) (a .rate) (a .basis) (a .start) (a .end) (days .0 .0)
     (sym (s .check .ensures) ∙ told .enum-told .given .1) (sym (ap meansDays (days .1)) ∙ counted .day-count .ensures)
 
 within-requires : tie.Need-within-requires

@@ -9,6 +9,7 @@ use Rattle.refusal.specs.declared.Checked.the-variants.{Passed}
 use Rattle.refusal.specs.declared.Refusal.the-variants.{Rate}
 use Rattle.refusal.specs.Rows.{row, checkOf}
 use Rattle.refusal.proofs.Joined.{front-refused, front-passed}
+use Rattle.currency.specs.declared.Currency.{Currency}
 use Rattle.amount.specs.Amounts.{amountRows}
 use Rattle.interest.specs.Interest.{lastRate}
 use Rattle.interest.specs.Accrual.{rateRows}
@@ -24,7 +25,7 @@ enum-known-refusal c = search needs
 enum-told : tie.Need-enum-told
 enum-told c = search needs
 
-at-rate : (scale m currency rate : ℕ) → checkOf (amountRows scale m currency) ≡ Passed
+at-rate : (scale m : ℕ) (currency : Currency) (rate : ℕ) → checkOf (amountRows scale m currency) ≡ Passed
     → checkOf (rateRows scale m currency rate) ≡ checkOf (row Rate (ltb lastRate rate) ∷ [])
 at-rate scale m currency rate = front-passed (amountRows scale m currency) (row Rate (ltb lastRate rate) ∷ [])
 

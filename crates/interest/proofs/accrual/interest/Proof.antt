@@ -29,7 +29,7 @@ returns c =
     let p = a .principal in
     sym
     (mode-refused (interestMade (ruleOf (a .mode)) p (a .rate) (a .basis) (a .start) (a .end))
-    (interestRows (p .scale) (magnitudeOf (p .coefficient)) (p .currency .0) (a .rate) (a .basis) (a .start) (a .end)) (a .mode)
+    (interestRows (p .scale) (magnitudeOf (p .coefficient)) (p .currency) (a .rate) (a .basis) (a .start) (a .end)) (a .mode)
     (c .before .refusal .given .0 .0) (sym (c .before .before .before .rule-of .ensures) ∙ c .before .refusal .given .1))
 
 returns-2 : tie.Need-returns-2
@@ -38,7 +38,7 @@ returns-2 c =
     let s = c .before .before in
     let a = s .before .before .before .args in
     let p = a .principal in
-    let rows = interestRows (p .scale) (magnitudeOf (p .coefficient)) (p .currency .0) (a .rate) (a .basis) (a .start) (a .end) in
+    let rows = interestRows (p .scale) (magnitudeOf (p .coefficient)) (p .currency) (a .rate) (a .basis) (a .start) (a .end) in
     let rule = s .rule .given .0 .0 in
     let chosen = sym (s .before .before .rule-of .ensures) ∙ s .rule .given .1 in
     c .by-rule .ensures

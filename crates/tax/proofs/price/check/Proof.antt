@@ -8,6 +8,7 @@ use lib.Dec.{ltb}
 use Rattle.refusal.specs.declared.Refusal.the-variants.{Rate}
 use Rattle.refusal.specs.declared.Checked.the-variants.{Passed}
 use Rattle.refusal.specs.Rows.{row, checkOf}
+use Rattle.currency.specs.declared.Currency.{Currency}
 use Rattle.amount.specs.Amounts.{amountRows}
 use Rattle.tax.specs.Tax.{million, taxRows}
 use Rattle.refusal.proofs.Joined.{front-refused, front-passed}
@@ -32,7 +33,7 @@ returns c =
     (sym (c .before .before .before .check-one .ensures) ∙ c .before .refusal .given .1))
 
 -- what `check_one` let pass leaves the rate
-at-rate : (scale m currency rate : ℕ) → checkOf (amountRows scale m currency) ≡ Passed
+at-rate : (scale m : ℕ) (currency : Currency) (rate : ℕ) → checkOf (amountRows scale m currency) ≡ Passed
     → checkOf (taxRows scale m currency rate) ≡ checkOf (row Rate (ltb million rate) ∷ [])
 unfolding taxRows
 at-rate scale m currency rate = front-passed (amountRows scale m currency) (row Rate (ltb million rate) ∷ [])

@@ -3,8 +3,8 @@
 use mathlib.Core.Bool.{Bool, not, _&&_}
 use Prim.Native.Nat.{ℕ}
 use lib.Dec.{eqb}
-use Rattle.amount.specs.Amounts.{unknown}
-use Rattle.amount.specs.Table.{lineOf}
+use Rattle.currency.specs.declared.Currency.{Currency}
+use Rattle.currency.specs.Table.{unknown, lineOf}
 
-unfoldable pub notOwnDigits : (currency scale : ℕ) → Bool
+unfoldable pub notOwnDigits : Currency → (scale : ℕ) → Bool
 notOwnDigits currency scale = not (unknown currency) && not (eqb scale (lineOf currency .digits))

@@ -9,10 +9,10 @@ use native.Mathlib.Omega.{arith}
 use borrow.Author.Tests.{le-ltb}
 use lib.Dec.{T, leb, leb→le}
 use lib.ListN.{length, getD}
-use Rattle.amount.specs.declared.Line.{Line}
-use Rattle.amount.specs.Table.{line, currencies, lineOf}
-use Rattle.amount.specs.Amounts.{lastCurrency}
-use Rattle.amount.specs.Tens.{powerOfTen}
+use Rattle.currency.specs.declared.Currency.{Currency}
+use Rattle.currency.specs.declared.Line.{Line}
+use Rattle.currency.specs.Table.{line, currencies, lineOf, lastCurrency}
+use Rattle.currency.specs.Tens.{powerOfTen}
 
 -- the rule of a line: six figures, 2 to 6 places, and the currency's own digits at most 2, at most the places and at most 4 fewer
 pub record Good (l : Line) : Type 0 where
@@ -65,9 +65,9 @@ at f otherwise (x ∷ xs) t zero h = both (f x) (every f xs) t .0
 at f otherwise (x ∷ xs) t (suc k) h = at f otherwise xs (both (f x) (every f xs) t .1) k (le-of-suc-le-suc h)
 
 -- THE LAW: every currency's line keeps the rule
-pub in-table : (c : ℕ) → c ≤ lastCurrency → Good (lineOf c)
+pub in-table : (c : Currency) → c .0 ≤ lastCurrency → Good (lineOf c)
 unfolding lineOf
-in-table c h = passes (getD currencies c (line 0 0 0 0 0 0)) (at good (line 0 0 0 0 0 0) currencies tt c (omega arith))
+in-table c h = passes (getD currencies (c .0) (line 0 0 0 0 0 0)) (at good (line 0 0 0 0 0 0) currencies tt (c .0) (omega arith))
 
 pub power-of-ten : (k : ℕ) → k ≤ 12 → powerOfTen k ≡ 10 ^ k
 unfolding powerOfTen

@@ -2,9 +2,9 @@
 use mathlib.Core.Path.{sym}
 use lib.ListN.{List·getD-eq-default}
 use Rattle.whole.proofs.Keys.{past-keys}
-use Rattle.amount.specs.Table.{line, currencies, lineOf}
-use Rattle.amount.proofs.table.line_of.Statement.{statement}
-use Rattle.amount.proofs.table.line_of.Tie as tie
+use Rattle.currency.specs.Table.{line, currencies, lineOf}
+use Rattle.currency.proofs.table.line_of.Statement.{statement}
+use Rattle.currency.proofs.table.line_of.Tie as tie
 
 returns : tie.Need-returns
 unfolding lineOf

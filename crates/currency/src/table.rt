@@ -2,12 +2,12 @@
 use crate::Currency;
 use crate::Line;
 ghost use mathlib.Core.Path.{_≡_};
-ghost use Rattle.amount.specs.Table.{lineOf};
-ghost use Rattle.amount.specs.Tens.{powerOfTen};
+ghost use Rattle.currency.specs.Table.{lineOf};
+ghost use Rattle.currency.specs.Tens.{powerOfTen};
 
 // The line of a currency number; a number that the table doesn't have reads 0.
 pub fn line_of(currency: Currency) -> Line
-    ensures { λ r. ⌜ r ≡ lineOf (currency .0) ⌝ }
+    ensures { λ r. ⌜ r ≡ lineOf currency ⌝ }
 {
     let number = currency.0;
     match number {

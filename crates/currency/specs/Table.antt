@@ -1,9 +1,12 @@
 -- Document 01, "Amounts and the table of currencies": the table, a line for each currency number from 0 to 20.
--- Cited by `line_of` and by every conversion. Assumes nothing.
+-- Cited by `line_of` and by every call that takes a currency number. Assumes nothing.
+use mathlib.Core.Bool.{Bool, not}
 use mathlib.Core.List.{List, [], _∷_}
 use Prim.Native.Nat.{ℕ}
+use lib.Dec.{ltb, eqb}
 use lib.ListN.{getD}
-use Rattle.amount.specs.declared.Line.{Line}
+use Rattle.currency.specs.declared.Currency.{Currency}
+use Rattle.currency.specs.declared.Line.{Line}
 
 -- a line: the code's three letters, K and k of the rate K / 10^k, and the currency's own scale
 abbrev pub line : (a b c K k digits : ℕ) → Line
@@ -36,5 +39,19 @@ currencies =
     ∷ []
 
 -- the line of a currency number; a number that the table doesn't have reads 0
-unfoldable pub lineOf : ℕ → Line
-lineOf currency = getD currencies currency (line 0 0 0 0 0 0)
+unfoldable pub lineOf : Currency → Line
+lineOf currency = getD currencies (currency .0) (line 0 0 0 0 0 0)
+
+-- row 4 of the table of refusals, "a currency number is over 20"
+abbrev pub lastCurrency : ℕ
+lastCurrency = 20
+
+abbrev pub unknown : Currency → Bool
+unknown currency = ltb lastCurrency (currency .0)
+
+-- one currency twice; row 5, "two currencies that must agree differ"
+abbrev pub same : (c d : Currency) → Bool
+same c d = eqb (c .0) (d .0)
+
+abbrev pub differ : (c d : Currency) → Bool
+differ c d = not (same c d)

@@ -1,9 +1,9 @@
 -- Each arm's number is the power's exponent, and a number that is none of the keys is over 12. Assumes nothing.
 use borrow.Author.Tests.{lt-ltb}
 use Rattle.whole.proofs.Keys.{past-keys}
-use Rattle.amount.specs.Tens.{powerOfTen}
-use Rattle.amount.proofs.table.power_of_ten.Statement.{statement}
-use Rattle.amount.proofs.table.power_of_ten.Tie as tie
+use Rattle.currency.specs.Tens.{powerOfTen}
+use Rattle.currency.proofs.table.power_of_ten.Statement.{statement}
+use Rattle.currency.proofs.table.power_of_ten.Tie as tie
 
 returns : tie.Need-returns
 unfolding powerOfTen

@@ -1,0 +1,4 @@
+pub mod Table
+pub mod Tens
+pub mod Digits
+pub mod Names
