@@ -13,11 +13,12 @@ use Rattle.interest.specs.DaysSaid.{daysRows, daysSaid}
 use Rattle.interest.specs.Interest.{interestRows, interestOf, interestSaid}
 use Rattle.tax.specs.Tax.{taxRows, fromGross, splitSaid}
 use Rattle.whole.specs.Sums.{sumOf}
-use Rattle.sharing.specs.Rule.{roundedDown, remainders, unitsLeft, largest, handOut, sharesOf, signedShares}
-use Rattle.sharing.specs.Shared.{sharingRows, sharedSaid}
+use Rattle.remainder.specs.Rule.{roundedDown, remainders, unitsLeft, largest, handOut, sharesOf, signedShares}
+use Rattle.weights.specs.Weights.{listRows}
+use Rattle.sharing.specs.Shared.{sharedSaid}
 use Rattle.units.specs.Rule.{mayTake, due, bestOf, takerOf, totals}
 use Rattle.marked.specs.Cases.{takers, said, printed}
 
 pub marked : said ≡ printed
-unfolding said takers badMode ruleOf restOf isOdd roundedMagnitude rounded plainRows plainSaid lineOf notOwnDigits toEuro fromEuro convertRows exchanged converted convertSaid leap monthLength exists daysOfMonths daysOfYears dayNumber actual thirty daysRows daysSaid interestRows interestOf interestSaid taxRows fromGross splitSaid sumOf roundedDown remainders unitsLeft largest handOut sharesOf signedShares sharingRows sharedSaid mayTake due bestOf takerOf totals
+unfolding said takers badMode ruleOf restOf isOdd roundedMagnitude rounded plainRows plainSaid lineOf notOwnDigits toEuro fromEuro convertRows exchanged converted convertSaid leap monthLength exists daysOfMonths daysOfYears dayNumber actual thirty daysRows daysSaid interestRows interestOf interestSaid taxRows fromGross splitSaid sumOf roundedDown remainders unitsLeft largest handOut sharesOf signedShares listRows sharedSaid mayTake due bestOf takerOf totals
 marked = refl

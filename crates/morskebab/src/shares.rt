@@ -5,7 +5,8 @@ use crate::given::given_amount;
 use sharing::share;
 ghost use mathlib.Core.Path.{_≡_};
 ghost use lib.ListN.{length};
-ghost use Rattle.sharing.specs.Shared.{sharedSaid, outAfter};
+ghost use Rattle.weights.specs.Lent.{outAfter};
+ghost use Rattle.sharing.specs.Shared.{sharedSaid};
 ghost use Rattle.morskebab.specs.Given.{amountFrom};
 ghost use Rattle.morskebab.specs.Answers.{refusalOf};
 

@@ -1,10 +1,4 @@
-pub mod Places
-pub mod Largest
-pub mod Remainders
-pub mod Handing
-pub mod Shares
-pub mod Signs
-pub mod Cases
-pub mod Passed
+pub mod Parts
 pub mod Answered
 pub mod Unique
+pub mod ExactlyWhen

@@ -3,6 +3,7 @@ use amount::Amount;
 use amount::check_one;
 use currency::Currency;
 use refusal::Checked;
+use weights::check_weights;
 use whole::is_negative;
 use whole::magnitude;
 ghost use mathlib.Core.Path.{_≡_};
@@ -10,18 +11,20 @@ ghost use mathlib.Core.List.{_++_};
 ghost use lib.ListN.{length};
 ghost use Rattle.refusal.specs.Rows.{checkOf, meansOutcome};
 ghost use Rattle.amount.specs.Amounts.{amountRows};
-ghost use Rattle.sharing.specs.Rule.{signedShares};
-ghost use Rattle.sharing.specs.Shared.{sharingRows, sharedSaid, outAfter};
+ghost use Rattle.weights.specs.Lent.{outAfter};
+ghost use Rattle.weights.specs.Weights.{listRows};
+ghost use Rattle.remainder.specs.Rule.{signedShares};
+ghost use Rattle.sharing.specs.Shared.{sharedSaid};
 
 mod spread;
 
 // The first row of the table that holds for an amount's scale, magnitude and currency, these weights and an output of so many places.
 fn check(scale: u8, m: u64, currency: Currency, weights: &[u32], room: usize) -> Checked
-    ensures { λ r. ⌜ r ≡ checkOf (amountRows scale m currency ++ sharingRows (now (weights .entry)) room) ⌝ }
+    ensures { λ r. ⌜ r ≡ checkOf (amountRows scale m currency ++ listRows (now (weights .entry)) room) ⌝ }
 {
     match check_one(scale, m, currency) {
         Checked::Refused(refusal) => Checked::Refused(refusal),
-        Checked::Passed => spread::check(weights, room),
+        Checked::Passed => check_weights(weights, room),
     }
 }
 

@@ -1,5 +1,6 @@
 mod Signs
 pub mod Laws
 pub mod Sums
+pub mod Exchange
 pub mod Keys
 pub mod Lists

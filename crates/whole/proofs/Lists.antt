@@ -1,6 +1,6 @@
 -- A list that is filled place by place keeps its length; the places filled hold what they are filled with, and the others what they held.
--- A loop that fills one starts with `fill-none`, goes on with `fill-more` and ends with `filled-is` or `filled-all`. Assumes nothing.
-use mathlib.Core.Path.{_≡_, refl, sym, _∙_}
+-- A loop that fills one starts with `fill-none`, goes on with `fill-more` and ends with `filled-is`, `filled-all` or `copy-all`. Assumes nothing.
+use mathlib.Core.Path.{_≡_, refl, sym, _∙_, ap}
 use mathlib.Core.List.{List}
 use Prim.Native.Nat.{ℕ, zero, suc, _+_, _-_, _≤_, _<_}
 use native.Mathlib.Decide.{ℕ-discrete, decLt}
@@ -73,3 +73,12 @@ filled-all f xs d r long each =
   where
     zero-plus : (k : ℕ) → 0 + k ≡ k
     zero-plus k = omega arith
+
+-- a list filled with the numbers of another, so far and to its end
+module _ {A : Type 0} (d : A) (l xs held : List A) (n : ℕ) (so-far : held ≡ filled 0 (λ k. getD l k d) n xs) where
+  pub copy-length : length held ≡ length xs
+  copy-length = ap length so-far ∙ length-filled 0 (λ k. getD l k d) xs n
+
+  pub copy-all : length l ≡ length xs → n ≡ length xs → held ≡ l
+  copy-all same e =
+      so-far ∙ ap (λ (m : ℕ). filled 0 (λ k. getD l k d) m xs) e ∙ filled-all (λ k. getD l k d) xs d l same (λ k below. refl)

@@ -53,6 +53,13 @@ unfolding sumTo
 sum-term f zero i h = absurd (not-suc-le-zero h)
 sum-term f (suc n) i h = and-last (λ j. f j ≤ sumTo f n + f n) n (λ j l. omega (arith, sum-term f n j l)) (omega arith) i h
 
+-- a list's place is at most its sum
+pub place-within : (l : List ℕ) (i : ℕ) → getD l i 0 ≤ sumOf l
+unfolding sumOf
+place-within [] i = omega arith
+place-within (x ∷ l) zero = omega arith
+place-within (x ∷ l) (suc i) = omega (arith, place-within l i)
+
 -- f is one above g at place p, and the same elsewhere
 pub sum-raised : (f g : ℕ → ℕ) (p n : ℕ) → p < n → f p ≡ g p + 1 → ((i : ℕ) → i ≢ p → f i ≡ g i) → sumTo f n ≡ sumTo g n + 1
 unfolding sumTo

@@ -4,7 +4,7 @@ use borrow.Author.Needs.{needs}
 use denote.Ref.{now}
 use Rattle.refusal.proofs.Joined.{front-refused, front-passed}
 use Rattle.amount.specs.Amounts.{amountRows}
-use Rattle.sharing.specs.Shared.{sharingRows}
+use Rattle.weights.specs.Weights.{listRows}
 use Rattle.sharing.proofs.check.Statement.{statement}
 use Rattle.sharing.proofs.check.Tie as tie
 
@@ -17,24 +17,24 @@ enum-known-refusal c = search needs
 enum-told : tie.Need-enum-told
 enum-told c = search needs
 
-check-requires : tie.Need-check-requires
-check-requires c κs = search needs
+check-weights-requires : tie.Need-check-weights-requires
+check-weights-requires c κs = search needs
 
 returns : tie.Need-returns
 returns c =
     let a = c .before .before .before .before .before .args in
     sym
-    (front-refused (amountRows (a .scale) (a .m) (a .currency)) (sharingRows (now (a .weights)) (a .room)) (c .before .refusal .given .0 .0)
+    (front-refused (amountRows (a .scale) (a .m) (a .currency)) (listRows (now (a .weights)) (a .room)) (c .before .refusal .given .0 .0)
     (sym (c .before .before .before .check-one .ensures) ∙ c .before .refusal .given .1))
 
 returns-2 : tie.Need-returns-2
 returns-2 c =
     let a = c .before .before .before .before .before .args in
-    c .check .ensures
-    ∙ sym (front-passed (amountRows (a .scale) (a .m) (a .currency)) (sharingRows (now (a .weights)) (a .room))
+    c .check-weights .ensures
+    ∙ sym (front-passed (amountRows (a .scale) (a .m) (a .currency)) (listRows (now (a .weights)) (a .room))
     (sym (c .before .before .before .check-one .ensures) ∙ c .before .enum-told .given .1))
 
 pub check-spec : {M : Type 1} → statement M
 check-spec =
     tie.close
-    (tie.spec check-one-requires enum-known-refusal enum-told check-requires returns returns-2)
+    (tie.spec check-one-requires enum-known-refusal enum-told check-weights-requires returns returns-2)

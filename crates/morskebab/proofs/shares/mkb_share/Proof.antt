@@ -3,7 +3,7 @@ use borrow.Author.Needs.{needs}
 use denote.Ref.{now}
 use mathlib.Core.Path.{_∙_}
 use Rattle.morskebab.proofs.Outcomes.{said-number}
-use Rattle.sharing.specs.Rule.{signedShares}
+use Rattle.remainder.specs.Rule.{signedShares}
 use Rattle.morskebab.proofs.shares.mkb_share.Statement.{statement}
 use Rattle.morskebab.proofs.shares.mkb_share.Tie as tie
 

@@ -8,8 +8,8 @@ use native.Mathlib.Omega.{arith}
 use borrow.Author.Needs.{needs}
 use lib.ListN.{length}
 use Rattle.whole.specs.Sums.{sumOf}
-use Rattle.sharing.specs.Rule.{Handed, serve, handOut}
-use Rattle.sharing.proofs.Handing.{shares-length, unserved-length, handed-sum}
+use Rattle.remainder.specs.Rule.{Handed, serve, handOut}
+use Rattle.remainder.proofs.Handing.{shares-length, unserved-length, handed-sum}
 use Rattle.sharing.proofs.spread.hand_out.Statement.{statement}
 use Rattle.sharing.proofs.spread.hand_out.Tie as tie
 
@@ -23,8 +23,8 @@ abbrev μ-loop : tie.MeasureT-loop
 
 -- the loop's own variables: the shares and the remainders after so many units, and after one more
 module _ (h : Handed) (given : ℕ) (ss rs : List ℕ) (shares : ss ≡ handOut given h .shares) (rests : rs ≡ handOut given h .unserved) where
-  ready : 1 ≤ length (h .unserved) → length (h .unserved) ≡ length (h .shares) → sumOf (h .shares) + given < 2 ^ 63
-      → (1 ≤ length rs) × ((length rs ≡ length ss) × (sumOf ss < 2 ^ 63))
+  ready : 1 ≤ length (h .unserved) → length (h .unserved) ≡ length (h .shares) → sumOf (h .shares) + given + 1 < 2 ^ 64
+      → (1 ≤ length rs) × ((length rs ≡ length ss) × (sumOf ss + 1 < 2 ^ 64))
   ready some same room =
       rw (shares, rests)
       (omega (arith, unserved-length given h), (omega (arith, unserved-length given h, shares-length given h), omega (arith, handed-sum given h some same)))

@@ -5,8 +5,8 @@ use Prim.Native.Nat.{ℕ, _-_, _≤_}
 use native.Mathlib.Omega.{arith}
 use borrow.Author.Needs.{needs}
 use lib.ListN.{length, getD}
-use Rattle.sharing.specs.Rule.{largest}
-use Rattle.sharing.proofs.Largest.{scan-start, scan-larger, scan-past}
+use Rattle.remainder.specs.Rule.{largest}
+use Rattle.remainder.proofs.Largest.{scan-start, scan-larger, scan-past}
 use Rattle.sharing.proofs.spread.largest_place.Statement.{statement}
 use Rattle.sharing.proofs.spread.largest_place.Tie as tie
 

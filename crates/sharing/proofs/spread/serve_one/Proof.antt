@@ -5,9 +5,9 @@ use Prim.Native.Nat.{ℕ, _+_, _<_}
 use native.Mathlib.Omega.{arith}
 use borrow.Author.Needs.{needs}
 use lib.ListN.{length, getD, set}
-use Rattle.sharing.specs.Rule.{largest}
-use Rattle.sharing.proofs.Places.{at-most-sum}
-use Rattle.sharing.proofs.Largest.{largest-is}
+use Rattle.remainder.specs.Rule.{largest}
+use Rattle.whole.proofs.Sums.{place-within}
+use Rattle.remainder.proofs.Largest.{largest-is}
 use Rattle.sharing.proofs.spread.serve_one.Statement.{statement}
 use Rattle.sharing.proofs.spread.serve_one.Tie as tie
 
@@ -26,7 +26,7 @@ slice-read-shares c = omega (arith, inside (c .before))
 
 add-shares : tie.Need-add-shares
 add-shares c =
-    omega (arith, at-most-sum (c .before .before .before .before .before .args .shares .now) (c .before .largest-place .result))
+    omega (arith, place-within (c .before .before .before .before .before .args .shares .now) (c .before .largest-place .result))
 
 slice-write-shares : tie.Need-slice-write-shares
 slice-write-shares c = omega (arith, inside (c .before))

@@ -1,24 +1,26 @@
--- The places passed hold the signed shares, each at most the sum, which an i64 holds; the others stand as they did.
--- Assumes nothing.
-use mathlib.Core.Path.{_≡_, refl, _∙_}
+-- The places passed hold the signed shares, each at most the sum, which an i64 holds. Assumes nothing.
+use mathlib.Core.Path.{_≡_, sym, _∙_}
+use mathlib.Core.List.{map}
 use Prim.Native.Nat.{_-_, _≤_}
 use native.Mathlib.Omega.{arith}
 use borrow.Author.Needs.{needs}
-use lib.ListN.{length, getD}
+use lib.ListN.{length, getD, length-map, List·getD-map}
+use Rattle.whole.specs.Lists.{filled}
 use Rattle.whole.specs.Whole.{signedOf}
 use Rattle.whole.proofs.Laws.{read-back, held-within}
-use Rattle.sharing.proofs.Places.{at-most-sum, written, written-length, written-next, written-all}
+use Rattle.whole.proofs.Lists.{fill-none, fill-more, copy-length, copy-all}
+use Rattle.whole.proofs.Sums.{place-within}
 use Rattle.sharing.proofs.spread.write.Statement.{statement}
 use Rattle.sharing.proofs.spread.write.Tie as tie
 
 abbrev Inv-loop : tie.InvT-loop
-Inv-loop negative shares out₀ i₀ out i = (i ≤ length shares) × (out ≡ written (signedOf negative) shares out₀ i)
+Inv-loop negative shares out₀ i₀ out i = (i ≤ length shares) × (out ≡ filled 0 (λ k. getD (map (signedOf negative) shares) k (signedOf negative 0)) i out₀)
 
 abbrev μ-loop : tie.MeasureT-loop
 μ-loop negative shares out₀ i₀ out i = length shares - i
 
 loop-holds : tie.Need-loop-holds Inv-loop μ-loop
-loop-holds c = (search needs, refl)
+loop-holds c = (search needs, fill-none 0 _ _)
 
 mul-signed : tie.Need-mul-signed Inv-loop μ-loop
 mul-signed c = search needs
@@ -36,7 +38,7 @@ slice-set-from-out : tie.Need-slice-set-from-out Inv-loop μ-loop
 slice-set-from-out c =
     let a = c .before .before .before .before .before .args in
     let at = c .before .before .before .loop in
-    omega (arith, written-length (signedOf (a .negative)) (a .shares .now) (a .out .now) (at .out) (at .i) (at .inv .1) (omega arith) (omega arith))
+    omega (arith, copy-length (signedOf (a .negative) 0) (map (signedOf (a .negative)) (a .shares .now)) (a .out .now) (at .out) (at .i) (at .inv .1))
 
 add-i : tie.Need-add-i Inv-loop μ-loop
 add-i c = search needs
@@ -50,22 +52,23 @@ loop-again c =
     let at = c .before .before .before .loop in
     let share = getD (a .shares .now) (at .i) 0 in
     let is = read-back (c .signed .result) (c .signed .ok) ∙ c .signed .ensures
-    ∙ held-within (a .negative) share (omega (arith, at-most-sum (a .shares .now) (at .i))) in (
+    ∙ held-within (a .negative) share (omega (arith, place-within (a .shares .now) (at .i))) in (
       omega arith,
-      written-next (signedOf (a .negative)) (a .shares .now) (a .out .now) (at .out) (at .i) (at .inv .1) (omega arith) _ is (omega arith),
+      fill-more 0 (λ k. getD (map (signedOf (a .negative)) (a .shares .now)) k (signedOf (a .negative) 0)) (a .out .now) (at .out) (at .i) (at .i) _ (at .inv .1) (omega arith)
+          (is ∙ sym (List·getD-map (signedOf (a .negative)) (a .shares .now) (at .i) 0)),
     )
 
 same-length : tie.Need-same-length Inv-loop μ-loop
 same-length c =
     let a = c .before .before .before .args in
     let at = c .before .loop in
-    written-length (signedOf (a .negative)) (a .shares .now) (a .out .now) (at .out) (at .i) (at .inv .1) (omega arith) (omega arith)
+    copy-length (signedOf (a .negative) 0) (map (signedOf (a .negative)) (a .shares .now)) (a .out .now) (at .out) (at .i) (at .inv .1)
 
 returns : tie.Need-returns Inv-loop μ-loop
 returns c =
     let a = c .before .before .before .args in
     let at = c .before .loop in
-    written-all (signedOf (a .negative)) (a .shares .now) (a .out .now) (at .out) (at .i) (at .inv .1) (omega arith) (omega arith)
+    copy-all (signedOf (a .negative) 0) (map (signedOf (a .negative)) (a .shares .now)) (a .out .now) (at .out) (at .i) (at .inv .1) (omega (arith, length-map (a .shares .now) (signedOf (a .negative)))) (omega arith)
 
 pub write-spec : {M : Type 1} → statement M
 write-spec =
