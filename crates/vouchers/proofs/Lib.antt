@@ -1,0 +1,4 @@
+pub mod Passed
+pub mod Unique
+pub mod ExactlyWhen
+pub mod Lines
