@@ -2,10 +2,12 @@
 
 from amounts import Amount, negation_of, order_of, rescaled, sum_of
 from book import ALL_ZERO_BOOK, open_book, post, refund, totals
+from command import ALL_WELL, READING_OR_WRITING_FAILED, run
 from dates import Date
 from euro import convert
 from interest import interest
-from lines import is_copied, lines_of, run, understood
+from lines import is_copied, understood
+from reading import Reading
 from refusals import Refusal
 from rounding import round_quotient
 from sharing import share
@@ -129,12 +131,13 @@ VERBS = {
 
 
 def desk(stream, output):
-    """Answers every line of the stream; empty lines and comments are copied."""
-    counter = Desk()
-    for line in lines_of(stream):
-        reply = line if is_copied(line) else counter.answer(line).encode("ascii")
+    """Answers every line of the stream; empty lines and comments are copied. Gives the status."""
+    counter, reading = Desk(), Reading(stream)
+    for line in reading:
+        reply = line.content if is_copied(line) else counter.answer(line).encode("ascii")
         output.write(reply + b"\n")
     output.flush()
+    return READING_OR_WRITING_FAILED if reading.failed else ALL_WELL
 
 
 if __name__ == "__main__":

@@ -1,117 +1,22 @@
-"""generate SEED COUNT: prints COUNT generated lines for desk, the same for the same seed.
+"""generate SEED COUNT: prints COUNT generated lines for both programs, the same for the same seed.
 
 Every verb, edges favoured: values at and beside each limit, numbers that no type
-holds, histories of books, lines that are not understood, comments, any bytes.
+holds, histories of books, openings that are refused or mistyped, lines that are too
+long, lines that are not understood, comments, any bytes.
 """
 
-import random
 import sys
 
 from amounts import CURRENCIES, L
-from lines import FORMS, LONGEST_LINE
+from lines import FORMS
+from reading import BYTE_ORDER_MARK, LONGEST_LINE
+from source import Source
 
-TYPE_LIMITS = (2**8, 2**16, 2**31, 2**32, 2**63, 2**64, 10**18, L)
 NOT_NUMBERS = (
     *(b"+5", b"-", b"--5", b"5-", b"1.0", b"1e3", b"0x10", b"1_0", b"x"),
     *(b"\t5", b"5\t", b"5\r", b"\x005", b"\xb2", b"\xd9\xa3"),
 )
 MOST_LINES_OF_A_HISTORY = 40
-
-
-class Source:
-    """Numbers, words and lines drawn from one seeded source."""
-
-    def __init__(self, seed):
-        self.random = random.Random(seed)
-
-    def chance(self, percent):
-        return self.random.randrange(100) < percent
-
-    def pick(self, *choices):
-        return self.random.choice(choices)
-
-    def below(self, limit):
-        return self.random.randrange(limit)
-
-    def beside(self, *limits):
-        """One of the limits, or a number next to it."""
-        return self.pick(*limits) + self.pick(-1, 0, 0, 1)
-
-    def beyond_types(self):
-        """A number at the limits of the types, or with a great many digits."""
-        if self.chance(70):
-            return self.pick(1, -1) * self.beside(*TYPE_LIMITS)
-        return self.pick(1, -1) * self.below(10 ** self.pick(20, 40, 100, 300))
-
-    def number(self, usual, edges):
-        """Mostly a usual number, often an edge, now and then one that no type holds."""
-        dice = self.below(100)
-        if dice < 82:
-            return usual
-        return self.beyond_types() if dice >= 97 else self.beside(*edges)
-
-    def mode(self):
-        return self.number(self.below(7), (0, 6, 7, 255))
-
-    def scale(self):
-        return self.number(self.below(7), (0, 6, 7))
-
-    def currency(self):
-        return self.number(self.below(21), (0, 20, 21))
-
-    def magnitude(self):
-        return self.below(10 ** self.pick(1, 2, 3, 5, 8, 11))
-
-    def coefficient(self):
-        usual = self.pick(1, 1, -1) * self.magnitude()
-        return self.number(usual, (0, L, -L, 2**63 - 1, -(2**63)))
-
-    def amount(self):
-        return [self.currency(), self.scale(), self.coefficient()]
-
-    def own_digits_amount(self):
-        """Mostly in a known currency and at its own digits, as conversions ask."""
-        if self.chance(20):
-            return self.amount()
-        currency = self.below(len(CURRENCIES))
-        return [currency, CURRENCIES[currency].digits, self.coefficient()]
-
-    def two_amounts(self):
-        one, other = self.amount(), self.amount()
-        if self.chance(85):
-            other[0] = one[0]
-        if self.chance(15):
-            other[1:] = [one[1], self.pick(1, -1) * (L - abs(one[2])) + self.pick(-1, 0, 1)]
-        return one + other
-
-    def date(self):
-        year = self.number(1900 + self.below(300), (1900, 2199, 2000, 2100))
-        month = self.number(1 + self.below(12), (1, 2, 12))
-        day = self.number(1 + self.below(28), (1, 28, 29, 30, 31))
-        return [year, month, day]
-
-    def two_dates(self):
-        """Mostly less than a year apart, in order."""
-        first = self.date()
-        if self.chance(20):
-            return first + self.date()
-        year, month, _ = first
-        months = month + self.below(12)
-        day = self.number(1 + self.below(28), (1, 28, 29, 30, 31))
-        return first + [year + (months - 1) // 12, (months - 1) % 12 + 1, day]
-
-    def weights(self, most, largest_sum):
-        """A list mostly within its rule, in number and in sum."""
-        count = self.number(1 + self.below(self.pick(3, 6, most)), (1, most))
-        count = max(0, min(count, 200))
-        largest = max(1, self.pick(3, 20, largest_sum) // max(count, 1))
-        weights = [self.below(largest + 1) for _ in range(count)]
-        if weights and self.chance(15):
-            place = self.below(count)
-            weights[place] = self.beside(largest_sum) - sum(weights) + weights[place]
-        if weights and self.chance(3):
-            weights[self.below(count)] = self.beyond_types()
-        return weights
 
 
 def numerator_and_divisor(source):
@@ -197,13 +102,57 @@ def step(source, currency, net):
     return line_of(source, verb, numbers), net
 
 
+def good_opening(source, currency):
+    return line_of(source, b"open", [currency] + source.weights(16, 10_000))
+
+
+def refused_opening(source, currency):
+    """Too large a currency, or weights that break their rule in number or in sum."""
+    numbers = source.pick(
+        [21 + source.below(300), 5, 3, 2],
+        [currency],
+        [currency] + [1] * (17 + source.below(90)),
+        [currency] + [0] * source.below(17),
+        [currency, 9_000 + source.below(10_000), 1_001],
+    )
+    return line_of(source, b"open", numbers)
+
+
+def mistyped_opening(source, currency):
+    """An `open` with nothing behind it, or with a word that is no number."""
+    words = good_opening(source, currency).split()
+    words[1 + source.below(len(words) - 1)] = source.pick(b"O", b"l0", b"5,", *NOT_NUMBERS)
+    gaps = b" " * source.pick(0, 0, 0, 2)
+    return gaps + (b"open" + gaps if source.chance(30) else b" ".join(words))
+
+
+def long_opening(source, currency):
+    """About 4,000 bytes that begin with `open` or, on some, with a word like it."""
+    start = source.pick(b"open %d 5 3 2" % currency, b"open", b"opens 0 1", b"open\t0 1")
+    return filled_up(source, b" " * source.pick(0, 0, 2, 4_100) + start)
+
+
+def opening(source, currency):
+    """Mostly a good one; those that open no book are followed by a book's lines too."""
+    dice = source.below(100)
+    if dice < 77:
+        return good_opening(source, currency)
+    if dice < 85:
+        return refused_opening(source, currency)
+    return mistyped_opening(source, currency) if dice < 97 else long_opening(source, currency)
+
+
 def history(source):
-    """An opening, then postings, refunds and totals of that book."""
+    """An opening, then postings, refunds and totals of that book; now and then the book
+    ends among them, by an opening that is mistyped or too long."""
     currency, net = source.number(source.pick(0, 0, 0, source.below(21)), (0, 20, 21)), 0
-    yield line_of(source, b"open", [currency] + source.weights(16, 10_000))
+    yield opening(source, currency)
     known = currency in range(len(CURRENCIES))
     for _ in range(source.below(MOST_LINES_OF_A_HISTORY if known else 5)):
-        if source.chance(15):
+        dice = source.below(200)
+        if dice < 2:
+            yield source.pick(*[mistyped_opening] * 3, long_opening)(source, currency)
+        elif dice < 30:
             yield line_of(source, b"totals", [])
         else:
             line, net = step(source, currency, net)
@@ -214,7 +163,9 @@ def not_understood(source):
     """A line that was good until something was done to it."""
     words = single_call(source).split()
     place = source.below(len(words))
-    damage = source.pick("missing", "superfluous", "no number", "verb", "tab", "bytes", "spaces")
+    damage = source.pick(
+        "missing", "superfluous", "no number", "verb", "tab", "bytes", "spaces", "mark"
+    )
     if damage == "missing":
         words.pop(place)
     elif damage == "superfluous":
@@ -223,6 +174,8 @@ def not_understood(source):
         words[place] = source.pick(*NOT_NUMBERS)
     elif damage == "verb":
         words[0] = source.pick(words[0].upper(), words[0] + b"s", b"", b"opens", b"total", *FORMS)
+    elif damage == "mark":
+        words[0] = BYTE_ORDER_MARK + words[0]
     elif damage == "spaces":
         return b" " * source.below(9)
     elif damage == "bytes":
@@ -239,12 +192,18 @@ def comment(source):
     return source.pick(b"# a comment", b"#", b" # no comment", b"#" + any_bytes(source, 12))
 
 
-def long_line(source):
-    """A good line, a comment or spaces, filled up to about 4,000 bytes or far more."""
-    length = source.pick(*range(LONGEST_LINE - 2, LONGEST_LINE + 4), 5_000, 70_000)
-    start = source.pick(b"round 6 5 ", b"#", b"totals", b"negate 0 2 -", b"share 0 2 100")
+def filled_up(source, start):
+    """The start, filled up to about 4,000 bytes or, on a few lines, to far more."""
+    usual = source.pick(*range(LONGEST_LINE - 2, LONGEST_LINE + 4), 5_000)
+    length = max(len(start), 70_000 if source.chance(3) else usual)
     fill = source.pick(b"0", b" ", b" 1", b"9")
     return (start + fill * length)[:length]
+
+
+def long_line(source):
+    """A good line, a comment or spaces, filled up."""
+    starts = (b"round 6 5 ", b"#", b"totals", b"negate 0 2 -", b"post 0 2 ")
+    return filled_up(source, source.pick(*starts))
 
 
 def some_lines(source):
@@ -261,17 +220,24 @@ def some_lines(source):
     return [b""] if dice < 997 else [long_line(source)]
 
 
+def line_end(source):
+    return source.pick(b"\r\n", b"\r\r\n") if source.chance(6) else b"\n"
+
+
 def generated(seed, count):
-    """The generated input, as pieces of bytes: a line and its end each."""
+    """The generated input, as pieces of bytes. A mark may stand first, whole, in part or
+    twice, and the last line may be unended."""
     source, left = Source(seed), count
+    if source.chance(40):
+        yield source.pick(*[BYTE_ORDER_MARK] * 2, BYTE_ORDER_MARK[:2], BYTE_ORDER_MARK * 2)
     while left > 0:
         for line in some_lines(source):
             if left == 0:
                 return
             left -= 1
-            end = source.pick(b"\r\n", b"\r\r\n") if source.chance(3) else b"\n"
-            without_newline = left == 0 and line and source.chance(50)
-            yield line + (end[:-1] if without_newline else end)
+            end = line_end(source)
+            unended = left == 0 and line and source.chance(50)
+            yield line + (end[:-1] if unended else end)
 
 
 if __name__ == "__main__":

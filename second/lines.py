@@ -1,43 +1,12 @@
-"""Lines in: where a line ends, what its words are, and which lines are understood."""
+"""A line: what its words are, which lines are understood, what the library's types hold."""
 
 import re
-import sys
 from typing import NamedTuple, Optional
-
-LONGEST_LINE = 4_000
-TOO_LONG = None
-SKIPPED_AT_ONCE = 65_536
-
-
-def lines_of(stream):
-    """Each line's bytes without its end, or TOO_LONG for a line of over 4,000 bytes.
-
-    A line ends at a newline or at the end of the input; one carriage return right
-    before that is no part of it. However long a line is, little of it is held.
-    """
-    longest_with_end = LONGEST_LINE + len(b"\r\n")
-    while True:
-        piece = stream.readline(longest_with_end)
-        if not piece:
-            return
-        if len(piece) == longest_with_end and not piece.endswith(b"\n"):
-            skip_to_line_end(stream)
-            yield TOO_LONG
-            continue
-        line = piece.removesuffix(b"\n").removesuffix(b"\r")
-        yield line if len(line) <= LONGEST_LINE else TOO_LONG
-
-
-def skip_to_line_end(stream):
-    while True:
-        piece = stream.readline(SKIPPED_AT_ONCE)
-        if not piece or piece.endswith(b"\n"):
-            return
 
 
 def is_copied(line):
     """Empty lines and comments, which ask for nothing."""
-    return line is not TOO_LONG and (line == b"" or line.startswith(b"#"))
+    return not line.too_long and (line.content == b"" or line.content.startswith(b"#"))
 
 
 def unsigned(bits):
@@ -90,12 +59,17 @@ WHOLE_NUMBER = re.compile(rb"-?[0-9]+")
 
 def words_of(line):
     """Words are separated by spaces alone; a tab is no space."""
-    return [word for word in line.split(b" ") if word]
+    return [word for word in line.content.split(b" ") if word]
+
+
+def first_word_is(verb, line):
+    """Also asked of a line that is too long, whose front has the whole of a verb."""
+    return words_of(line)[:1] == [verb]
 
 
 def understood(line):
     """(verb, numbers as the library's types hold them), or None for a line not understood."""
-    words = [] if line is TOO_LONG else words_of(line)
+    words = [] if line.too_long else words_of(line)
     if not words or words[0] not in FORMS:
         return None
     verb, said = words[0], words[1:]
@@ -107,19 +81,3 @@ def understood(line):
     further = len(said) - len(form.numbers)
     kinds = form.numbers + (form.further,) * further
     return verb, [kind(int(word)) for kind, word in zip(kinds, said)]
-
-
-def run(program):
-    """Runs the program on the file named by the one argument, or on standard input."""
-    arguments = sys.argv[1:]
-    if len(arguments) > 1:
-        sys.exit("one argument at most: the file to read")
-    if not arguments:
-        program(sys.stdin.buffer, sys.stdout.buffer)
-        return
-    try:
-        stream = open(arguments[0], "rb")
-    except OSError as error:
-        sys.exit(f"{arguments[0]}: {error.strerror}")
-    with stream:
-        program(stream, sys.stdout.buffer)

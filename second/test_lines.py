@@ -1,4 +1,4 @@
-"""Checks of the lines that the two programs read, and of what they print."""
+"""Checks of the lines that the two programs read, and of what the desk prints."""
 
 import io
 import pathlib
@@ -10,54 +10,69 @@ from generate import generated
 from rerun import rerun
 
 HERE = pathlib.Path(__file__).resolve().parent
+MARK = b"\xef\xbb\xbf"
+LONG_NUMBER = b"round 6 7 " + b"0" * 3989 + b"2"
+
+
+def printed(program, data):
+    """What a program prints for these bytes."""
+    output = io.BytesIO()
+    program(io.BytesIO(data), output)
+    return output.getvalue()
 
 
 def answers(data):
-    """What desk prints for these bytes, as lines."""
-    output = io.BytesIO()
-    desk(io.BytesIO(data), output)
-    return output.getvalue().split(b"\n")[:-1]
+    """What desk prints, as lines."""
+    return printed(desk, data).split(b"\n")[:-1]
 
 
 def reports(data):
-    output = io.BytesIO()
-    rerun(io.BytesIO(data), output)
-    return output.getvalue().decode("ascii")
+    return printed(rerun, data).decode("ascii")
 
 
 def ends_of_lines():
-    long_number = b"round 6 7 " + b"0" * 3989 + b"2"
     same(answers(b""), [])
     same(answers(b"\n\r\n\r"), [b"", b"", b""])
     same(answers(b"# a\r\n#\xff\x00\n #\n"), [b"# a", b"#\xff\x00", b"?"])
     same(answers(b"totals\r\r\ntotals \r\n totals"), [b"?", b"! 9", b"! 9"])
-    same(len(long_number), 4_000)
-    same(answers(long_number), [b"= 4"])
-    same(answers(long_number + b"\r\n" + long_number + b"\r"), [b"= 4", b"= 4"])
-    same(answers(long_number + b" \n" + long_number + b" \r\n\n"), [b"?", b"?", b""])
+    same(answers(b"a\n\nab\nabc\nabcd"), [b"?", b"", b"?", b"?", b"?"])
+    same(len(LONG_NUMBER), 4_000)
+    same(answers(LONG_NUMBER), [b"= 4"])
+    same(answers(LONG_NUMBER + b"\r\n" + LONG_NUMBER + b"\r"), [b"= 4", b"= 4"])
+    same(answers(LONG_NUMBER + b" \n" + LONG_NUMBER + b" \r\n\n"), [b"?", b"?", b""])
     same(answers(b"#" * 4_001 + b"\n" + b"#" * 4_000), [b"?", b"#" * 4_000])
     same(answers(b"#" * 200_000 + b"\ntotals\n" + b" " * 4_003), [b"?", b"! 9", b"?"])
+    same(answers(b" " * 65_538 + b"\ntotals\n"), [b"?", b"! 9"])
 
 
-def report_text():
-    report = reports(
-        b"totals\npost 0 2 1\npost 0 2 1\n# x\n\nopen 21 1\npost 1 0 1\nopen\n"
-        b"open 2 5 03 2\r\npost 2 2 7\npost 2 2 5\nrefund 2 2 3\nrefund 2 2 10\nrefund 2 2 -1\n?\n"
-    )
-    expected = (
-        "book none\nlines 0 accepted 2 refused 1 not understood\nrefused 9 times 2\n"
-        "book refused 4\nlines 0 accepted 1 refused 1 not understood\nrefused 5 times 1\n"
-        "book 2 weights 5 3 2\nlines 3 accepted 2 refused 1 not understood\n"
-        "refused 10 times 1\nrefused 12 times 1\nposted 12 refunded 3 net 9\n"
-        "partner 0 weight 5 paid 6 taken 1 total 5 least 4 most 5\n"
-        "partner 1 weight 3 paid 4 taken 1 total 3 least 2 most 3\n"
-        "partner 2 weight 2 paid 2 taken 1 total 1 least 1 most 2\ncheck ok\n"
-    )
-    same(report, expected)
-    same(reports(b"# only a comment\n\n"), "")
-    batches = (b"post 0 2 9\npost 0 2 4\n", b"post 0 2 13\n", b"post 0 2 20\nrefund 0 2 7\n")
-    ends = [re.findall(r"net \d+|total \d+", reports(b"open 0 6 6 2\n" + cut)) for cut in batches]
-    same(ends, [ends[0]] * 3)
+def byte_order_mark():
+    """No part of the first line at the very beginning of the input, and a part anywhere else."""
+    same(answers(MARK + b"round 6 5 2\ntotals\n"), [b"= 2", b"! 9"])
+    same(answers(MARK + b"# a\n"), [b"# a"])
+    same(answers(MARK + b" # a\n"), [b"?"])
+    same(answers(MARK), [])
+    same(answers(MARK + b"\n"), [b""])
+    same(answers(MARK + b"\r"), [b""])
+    same(answers(MARK + LONG_NUMBER + b"\r\n"), [b"= 4"])
+    same(answers(MARK + LONG_NUMBER + b" \n"), [b"?"])
+    same(answers(MARK + b"\n" + MARK + b"totals\n"), [b"", b"?"])
+    for no_mark in (MARK * 2, b" " + MARK, MARK[:2], MARK[:1], MARK[::-1], b"\n" + MARK):
+        same(answers(no_mark + b"totals")[-1], b"?")
+    for cut in (MARK[:2], MARK[:1]):
+        same(answers(cut), [b"?"])
+        same(answers(cut + b"\n" + MARK[2:]), [b"?", b"?"])
+    same(answers(LONG_NUMBER[:3_997] + MARK + b"\n"), [b"?"])
+
+
+def openings_at_the_desk():
+    """One that is not understood changes nothing there; a refused one leaves the all-zero book."""
+    opened = b"open 0 5 3\npost 0 2 8\n"
+    kept = b"= 8 5 3" + b" 0" * 14
+    for line in (b"open", b"open x", b"open 0 5 O", b"open" + b" 1" * 2_000, b"Open 0 1"):
+        same(answers(opened + line + b"\ntotals")[2:], [b"?", kept])
+    for line in (b"open 0 0", b"open 0"):
+        same(answers(opened + line + b"\ntotals")[2:], [b"! 9", b"! 9"])
+    same(answers(opened + b"open 21 1\ntotals")[2:], [b"! 4", b"! 9"])
 
 
 def answers_have_the_right_form():
@@ -68,6 +83,9 @@ def answers_have_the_right_form():
     inputs.append((HERE / "cases.txt").read_bytes())
     for data in inputs:
         found = answers(data)
-        same(len(found), data.count(b"\n") + (not data.endswith(b"\n")))
+        lines = data.count(b"\n") + (not data.endswith(b"\n"))
+        same(len(found), lines)
         holds(all(form.fullmatch(answer) for answer in found))
-        holds("FAILED" not in reports(data))
+        text = reports(data)
+        holds("FAILED" not in text)
+        same(re.fullmatch(r"end (\d+) lines.*", text.split("\n")[-2])[1], str(lines))

@@ -6,6 +6,7 @@ import random
 
 import checks
 import test_lines
+import test_rerun
 from amounts import CURRENCIES, Amount, L, negation_of, order_of, rescaled, sum_of
 from book import ALL_ZERO_BOOK, NO_PAYOUTS, Book, Pattern, open_book, post, refund, running_totals
 from book import totals as totals_of
@@ -251,6 +252,16 @@ if __name__ == "__main__":
     laws_of_the_book()
     laws_of_sharing()
     test_lines.ends_of_lines()
-    test_lines.report_text()
+    test_lines.byte_order_mark()
+    test_lines.openings_at_the_desk()
     test_lines.answers_have_the_right_form()
+    test_rerun.report_text()
+    test_rerun.openings_that_are_not_understood()
+    test_rerun.lines_that_are_no_opening()
+    test_rerun.lines_before_any_opening()
+    test_rerun.ends_of_reports()
+    test_rerun.reading_that_fails()
+    test_rerun.checks_of_a_report()
+    test_rerun.statuses_of_inputs()
+    test_rerun.statuses_of_commands()
     print(f"second: {checks.passed} checks passed")
