@@ -16,6 +16,10 @@ NOT_NUMBERS = (
     *(b"+5", b"-", b"--5", b"5-", b"1.0", b"1e3", b"0x10", b"1_0", b"x"),
     *(b"\t5", b"5\t", b"5\r", b"\x005", b"\xb2", b"\xd9\xa3"),
 )
+WORDS_OF_DOCUMENT_02 = (
+    *(b"read", b"write", b"net-for", b"compound", b"card", b"settled", b"row", b"export"),
+    *(b"vouchers", b"statement", b"check", b"view", b"reasons", b"check-any", b"view-any"),
+)
 MOST_LINES_OF_A_HISTORY = 40
 
 
@@ -173,7 +177,8 @@ def not_understood(source):
     elif damage == "no number":
         words[place] = source.pick(*NOT_NUMBERS)
     elif damage == "verb":
-        words[0] = source.pick(words[0].upper(), words[0] + b"s", b"", b"opens", b"total", *FORMS)
+        like_it = (words[0].upper(), words[0] + b"s", b"", b"opens", b"total")
+        words[0] = source.pick(*like_it, *FORMS, *WORDS_OF_DOCUMENT_02)
     elif damage == "mark":
         words[0] = BYTE_ORDER_MARK + words[0]
     elif damage == "spaces":
