@@ -36,22 +36,31 @@ class Form(NamedTuple):
     numbers: tuple
     further: Optional[object] = None
 
+    def takes(self, count):
+        """Can that many numbers stand behind the verb?"""
+        further = count - len(self.numbers)
+        return further == 0 or (further > 0 and self.further is not None)
 
+    def kinds(self, count):
+        return self.numbers + (self.further,) * (count - len(self.numbers))
+
+
+# of a verb's forms no two take the same count of numbers
 FORMS = {
-    b"round": Form((MODE, NUMERATOR, DIVISOR)),
-    b"sum": Form(AMOUNT + AMOUNT),
-    b"order": Form(AMOUNT + AMOUNT),
-    b"negate": Form(AMOUNT),
-    b"rescale": Form(AMOUNT + (SCALE, MODE)),
-    b"convert": Form(AMOUNT + (CURRENCY,)),
-    b"interest": Form(AMOUNT + (RATE, BASIS) + DATE + DATE + (MODE,)),
-    b"tax-net": Form(AMOUNT + (RATE, MODE)),
-    b"tax-gross": Form(AMOUNT + (RATE, MODE)),
-    b"share": Form(AMOUNT, further=WEIGHT),
-    b"open": Form((CURRENCY,), further=WEIGHT),
-    b"post": Form(AMOUNT),
-    b"refund": Form(AMOUNT),
-    b"totals": Form(()),
+    b"round": [Form((MODE, NUMERATOR, DIVISOR))],
+    b"sum": [Form(AMOUNT + AMOUNT)],
+    b"order": [Form(AMOUNT + AMOUNT)],
+    b"negate": [Form(AMOUNT)],
+    b"rescale": [Form(AMOUNT + (SCALE, MODE))],
+    b"convert": [Form(AMOUNT + (CURRENCY,))],
+    b"interest": [Form(AMOUNT + (RATE, BASIS) + DATE + DATE + (MODE,))],
+    b"tax-net": [Form(AMOUNT + (RATE, MODE))],
+    b"tax-gross": [Form(AMOUNT + (RATE, MODE))],
+    b"share": [Form(AMOUNT, further=WEIGHT)],
+    b"open": [Form((CURRENCY,), further=WEIGHT)],
+    b"post": [Form(AMOUNT)],
+    b"refund": [Form(AMOUNT)],
+    b"totals": [Form(())],
 }
 
 WHOLE_NUMBER = re.compile(rb"-?[0-9]+")
@@ -69,15 +78,12 @@ def first_word_is(verb, line):
 
 def understood(line):
     """(verb, numbers as the library's types hold them), or None for a line not understood."""
-    words = [] if line.too_long else words_of(line)
-    if not words or words[0] not in FORMS:
+    words = words_of(line)
+    if line.too_long or not words or not all(map(WHOLE_NUMBER.fullmatch, words[1:])):
         return None
     verb, said = words[0], words[1:]
-    form = FORMS[verb]
-    too_few = len(said) < len(form.numbers)
-    too_many = len(said) > len(form.numbers) and form.further is None
-    if too_few or too_many or not all(map(WHOLE_NUMBER.fullmatch, said)):
-        return None
-    further = len(said) - len(form.numbers)
-    kinds = form.numbers + (form.further,) * further
-    return verb, [kind(int(word)) for kind, word in zip(kinds, said)]
+    for form in FORMS.get(verb, []):
+        if form.takes(len(said)):
+            kinds = form.kinds(len(said))
+            return verb, [kind(int(word)) for kind, word in zip(kinds, said, strict=True)]
+    return None
