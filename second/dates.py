@@ -1,13 +1,12 @@
-"""Gregorian dates, and the day counts of the three bases."""
+"""Gregorian dates, and the day counts of the bases."""
 
-from typing import NamedTuple
+from typing import Callable, NamedTuple
+
+from asks import landed
 
 FIRST_YEAR = 1900
 LAST_YEAR = 2199
 MONTH_LENGTHS = (31, 28, 31, 30, 31, 30, 31, 31, 30, 31, 30, 31)
-
-ACTUAL_360, ACTUAL_365, THIRTY_360 = range(3)
-YEAR_OF_BASIS = {ACTUAL_360: 360, ACTUAL_365: 365, THIRTY_360: 360}
 
 
 class Date(NamedTuple):
@@ -49,14 +48,32 @@ def actual_days(start, end):
     return day_number(end) - day_number(start)
 
 
-def thirty_360_days(start, end):
-    """A day 31 in either date becomes 30; months of 30 days, years of 360."""
+def months_of_30_days(start, end, first_day, second_day):
+    """Years of 360 days and months of 30, with these days in place of the dates' own."""
     years = end.year - start.year
     months = end.month - start.month
-    days = min(end.day, 30) - min(start.day, 30)
-    return 360 * years + 30 * months + days
+    return 360 * years + 30 * months + second_day - first_day
 
 
-def day_count(basis, start, end):
-    """The days that a known basis counts between two dates that exist."""
-    return thirty_360_days(start, end) if basis == THIRTY_360 else actual_days(start, end)
+def european_days(start, end):
+    """A day 31 in either date becomes 30."""
+    return months_of_30_days(start, end, min(start.day, 30), min(end.day, 30))
+
+
+def american_days(start, end):
+    """A first day of 31 becomes 30; a second day of 31 only if the first day is then 30."""
+    first_day = min(start.day, 30)
+    second_day = 30 if end.day == 31 and first_day == 30 else end.day
+    return months_of_30_days(start, end, first_day, second_day)
+
+
+class Basis(NamedTuple):
+    """The days that it counts between two dates that exist, and the days of its year."""
+
+    days: Callable
+    year: int
+
+
+ACTUAL = (Basis(actual_days, 360), Basis(actual_days, 365))
+EUROPEAN, AMERICAN = Basis(european_days, 360), Basis(american_days, 360)
+BASES = ACTUAL + ((AMERICAN, EUROPEAN) if landed(2) else (EUROPEAN,))

@@ -8,6 +8,8 @@ long, lines that are not understood, comments, any bytes.
 import sys
 
 from amounts import CURRENCIES, L
+from asks import landed
+from dates import BASES
 from lines import FORMS
 from reading import BYTE_ORDER_MARK, LONGEST_LINE
 from source import Source
@@ -42,14 +44,25 @@ def interest_about_L(source):
     principal = source.pick(1, -1) * (L * 60 // 61 + source.below(3) * L // 180 + source.pick(0, 1))
     year = 1900 + source.below(299)
     end = [year + 1, 1, 1 + source.below(9)]
-    return [0, 2, principal, 10_000, source.below(3), year, 1, 1] + end + [source.mode()]
+    basis = source.below(len(BASES))
+    return [0, 2, principal, 10_000, basis, year, 1, 1] + end + [source.mode()]
+
+
+def two_ends_of_months(source):
+    """Where the two bases of 30-day months differ: about the last days of months."""
+    year, month = 1900 + source.below(299), source.pick(1, 1, 3, 5, 7)
+    later = month + source.below(6)
+    return [year, month, 28 + source.below(4), year, later, 28 + source.below(4)]
 
 
 def interest(source):
     if source.chance(10):
         return interest_about_L(source)
+    if landed(2) and source.chance(30):
+        basis, dates = 2 + source.below(2), two_ends_of_months(source)
+        return source.amount() + [source.below(10001), basis] + dates + [source.mode()]
     rate = source.number(source.below(10001), (0, 10000))
-    basis = source.number(source.below(3), (0, 2, 3))
+    basis = source.number(source.below(len(BASES)), (0, len(BASES) - 1, len(BASES)))
     return source.amount() + [rate, basis] + source.two_dates() + [source.mode()]
 
 

@@ -3,7 +3,7 @@
 from typing import NamedTuple
 
 from amounts import Amount, currency_over_20, over_L, scale_over_6
-from dates import YEAR_OF_BASIS, date_exists, day_count
+from dates import BASES, date_exists
 from refusals import answer
 from rounding import mode_unknown, rounded
 
@@ -19,19 +19,19 @@ class Interest(NamedTuple):
 
 
 def rate_or_basis_outside(rate, basis):
-    return not 0 <= rate <= LARGEST_RATE or basis not in YEAR_OF_BASIS
+    return not 0 <= rate <= LARGEST_RATE or basis not in range(len(BASES))
 
 
 def span_refused(basis, start, end):
     """Is the end before the start, or the basis's day count over 366?"""
-    return end < start or day_count(basis, start, end) > LARGEST_DAY_COUNT
+    return end < start or BASES[basis].days(start, end) > LARGEST_DAY_COUNT
 
 
 def interest_over(principal, rate, basis, start, end, mode):
     """principal x rate x days / (10,000 x year), rounded once at the principal's scale."""
-    days = day_count(basis, start, end)
+    days = BASES[basis].days(start, end)
     n = principal.coefficient * rate * days
-    d = 10_000 * YEAR_OF_BASIS[basis]
+    d = 10_000 * BASES[basis].year
     coefficient = rounded(mode, n, d)
     return Interest(principal._replace(coefficient=coefficient), days)
 
