@@ -11,7 +11,7 @@ from reading import Reading
 from refusals import Refusal
 from rounding import round_quotient
 from sharing import share
-from tax import tax_from_gross, tax_from_net
+from tax import net_for, tax_from_gross, tax_from_net
 
 NOT_UNDERSTOOD = "?"
 
@@ -85,6 +85,9 @@ class Desk:
     def tax_gross(self, numbers):
         return said(tax_from_gross(Amount(*numbers[:3]), *numbers[3:]), all_fields)
 
+    def net_for(self, numbers):
+        return said(net_for(Amount(*numbers[:3]), *numbers[3:]), all_fields)
+
     def share(self, numbers):
         weights = numbers[3:]
         lent = [0] * len(weights)
@@ -122,6 +125,7 @@ VERBS = {
     b"interest": Desk.interest,
     b"tax-net": Desk.tax_net,
     b"tax-gross": Desk.tax_gross,
+    b"net-for": Desk.net_for,
     b"share": Desk.share,
     b"open": Desk.open,
     b"post": Desk.post,

@@ -3,6 +3,8 @@
 import re
 from typing import NamedTuple, Optional
 
+from asks import LANDED
+
 
 def is_copied(line):
     """Empty lines and comments, which ask for nothing."""
@@ -62,6 +64,11 @@ FORMS = {
     b"refund": [Form(AMOUNT)],
     b"totals": [Form(())],
 }
+FORMS_OF_ASKS = {
+    5: {b"net-for": [Form(AMOUNT + (RATE, MODE))]},
+}
+for ask in sorted(LANDED):
+    FORMS.update(FORMS_OF_ASKS.get(ask, {}))
 
 WHOLE_NUMBER = re.compile(rb"-?[0-9]+")
 

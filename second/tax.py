@@ -2,7 +2,7 @@
 
 from typing import NamedTuple
 
-from amounts import currency_over_20, over_L, scale_over_6
+from amounts import L, currency_over_20, over_L, scale_over_6
 from refusals import answer
 from rounding import mode_unknown, rounded
 
@@ -58,3 +58,38 @@ def tax_from_gross(gross, rate, mode):
         (13, lambda: either_over_L(split_from_gross(gross, rate, mode))),
     ]
     return answer(rows, lambda: split_from_gross(gross, rate, mode))
+
+
+def gross_of(net, rate, mode):
+    return split_from_net(net, rate, mode).other
+
+
+def least_net_reaching(gross, rate, mode):
+    """The least net within L whose own gross is at least that gross; L where there is none.
+
+    A greater net has a greater gross, since its tax is never less. So this is the only
+    one that can have just that gross.
+    """
+    low, high = -L, L
+    while low < high:
+        middle = (low + high) // 2
+        if gross_of(gross._replace(coefficient=middle), rate, mode) >= gross.coefficient:
+            high = middle
+        else:
+            low = middle + 1
+    return gross._replace(coefficient=low)
+
+
+def net_for(gross, rate, mode):
+    """The net whose own gross is exactly that gross, or a refusal.
+
+    Row 13 can't hold: a net is never farther from zero than its gross.
+    """
+
+    def net():
+        return least_net_reaching(gross, rate, mode)
+
+    rows = rows_of_price(gross, rate, mode) + [
+        (15, lambda: gross_of(net(), rate, mode) != gross.coefficient),
+    ]
+    return answer(rows, net)

@@ -11,7 +11,8 @@ from checks import same
 from dates import Date
 from interest import interest
 from refusals import Refusal
-from rounding import HALF_UP
+from rounding import HALF_UP, rounded
+from tax import net_for
 from test_lines import HERE, answers
 
 EUR = 0
@@ -53,6 +54,29 @@ interest 0 2 360000 10000 3 2023 1 24 2024 1 31 4 -> = 0 2 366000 366
 """)
 
 
+def nets_of_prices():
+    """The only net there is of a gross, found among all that are near; else 15."""
+    for mode in range(7):
+        for rate in (0, 1, 70_000, 200_000, 333_333, 500_000, 999_999, 1_000_000):
+            of_gross = {}
+            for net in range(-60, 61):
+                gross = net + rounded(mode, net * rate, 1_000_000)
+                same(of_gross.setdefault(gross, net), net)
+            for gross in range(-60, 61):
+                expected = eur(of_gross[gross]) if gross in of_gross else Refusal(15)
+                same(net_for(eur(gross), rate, mode), expected)
+    lines("""
+net-for 0 2 4 200000 4 -> = 0 2 3
+net-for 0 2 3 200000 4 -> ! 15
+net-for 20 6 -4 200000 4 -> = 20 6 -3
+net-for 0 2 99999999999 0 0 -> = 0 2 99999999999
+net-for 0 2 -99999999999 1 0 -> = 0 2 -99999899999
+net-for 0 2 11 1000000 3 -> ! 15
+net-for 0 2 11 1000001 3 -> ! 6
+net-for 21 2 11 1000001 3 -> ! 4
+""")
+
+
 def fixed_cases_are_understood():
     """The lines of an ask's fixed cases, but for those that a comment says are not understood."""
     for ask in asks.WRITTEN:
@@ -66,5 +90,6 @@ def fixed_cases_are_understood():
 
 if __name__ == "__main__":
     american_and_european_months()
+    nets_of_prices()
     fixed_cases_are_understood()
     print(checks.passed)

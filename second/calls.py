@@ -1,0 +1,72 @@
+"""The numbers of a generated line, for each verb that is a call of its own."""
+
+from amounts import Amount, L
+from asks import landed
+from dates import BASES
+from source import Source
+from tax import split_from_net
+
+
+def numerator_and_divisor(source):
+    """Halves and exact quotients among them."""
+    divisor = source.number(1 + source.magnitude(), (1, 2, 10**18, 0, 2**64))
+    usual = source.pick(1, -1) * source.magnitude()
+    if source.chance(40):
+        usual = divisor * (2 * source.below(9) - 8) // 2 + source.pick(-1, 0, 0, 1)
+    return [source.number(usual, (0, 10**18, -(10**18))), divisor]
+
+
+def tax(source):
+    rate = source.number(source.pick(200000, 190000, 70000, source.below(10**6)), (0, 1, 10**6))
+    return source.amount() + [rate, source.mode()]
+
+
+def price(source):
+    """Mostly one that some net has, at a rate and by a mode."""
+    numbers = tax(source)
+    net, (rate, mode) = Amount(*numbers[:3]), numbers[3:]
+    if abs(net.coefficient) <= L and 0 <= rate <= 10**6 and 0 <= mode <= 6 and source.chance(70):
+        numbers[2] = split_from_net(net, rate, mode).other + source.pick(0, 0, 0, 1, -1)
+    return numbers
+
+
+def interest_about_L(source):
+    """A principal near L for about a year at the greatest rate: an interest about L."""
+    principal = source.pick(1, -1) * (L * 60 // 61 + source.below(3) * L // 180 + source.pick(0, 1))
+    year = 1900 + source.below(299)
+    end = [year + 1, 1, 1 + source.below(9)]
+    basis = source.below(len(BASES))
+    return [0, 2, principal, 10_000, basis, year, 1, 1] + end + [source.mode()]
+
+
+def two_ends_of_months(source):
+    """Where the two bases of 30-day months differ: about the last days of months."""
+    year, month = 1900 + source.below(299), source.pick(1, 1, 3, 5, 7)
+    later = month + source.below(6)
+    return [year, month, 28 + source.below(4), year, later, 28 + source.below(4)]
+
+
+def interest(source):
+    if source.chance(10):
+        return interest_about_L(source)
+    if landed(2) and source.chance(30):
+        basis, dates = 2 + source.below(2), two_ends_of_months(source)
+        return source.amount() + [source.below(10001), basis] + dates + [source.mode()]
+    rate = source.number(source.below(10001), (0, 10000))
+    basis = source.number(source.below(len(BASES)), (0, len(BASES) - 1, len(BASES)))
+    return source.amount() + [rate, basis] + source.two_dates() + [source.mode()]
+
+
+NUMBERS_OF = {
+    b"round": lambda source: [source.mode()] + numerator_and_divisor(source),
+    b"sum": Source.two_amounts,
+    b"order": Source.two_amounts,
+    b"negate": Source.amount,
+    b"rescale": lambda source: source.amount() + [source.scale(), source.mode()],
+    b"convert": lambda source: source.own_digits_amount() + [source.currency()],
+    b"interest": interest,
+    b"tax-net": tax,
+    b"tax-gross": tax,
+    b"net-for": price,
+    b"share": lambda source: source.amount() + source.weights(64, 10**6),
+}
