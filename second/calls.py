@@ -57,6 +57,24 @@ def interest(source):
     return source.amount() + [rate, basis] + source.two_dates() + [source.mode()]
 
 
+def grown_to_L(rate, periods):
+    """A principal whose last row is about L."""
+    return L * 10_000**periods // (10_000 + rate) ** periods
+
+
+def compound(source):
+    """Tables that come near L among them, and lists that are a place too short."""
+    currency, scale, coefficient = source.amount()
+    rate = source.number(source.below(source.pick(50, 1_000, 10_001)), (0, 10_000))
+    periods = source.number(source.below(source.pick(4, 12, 12, 40)), (0, 120))
+    if source.chance(95):
+        coefficient = abs(coefficient)
+    if 0 <= rate <= 10_000 and 0 <= periods <= 120 and source.chance(20):
+        coefficient = grown_to_L(rate, periods) + source.below(9) - 4
+    room = source.number(periods + source.pick(0, 1, 1, 1, 2, 3), (0, 1, 120, 128))
+    return [currency, scale, coefficient, rate, periods, room]
+
+
 NUMBERS_OF = {
     b"round": lambda source: [source.mode()] + numerator_and_divisor(source),
     b"sum": Source.two_amounts,
@@ -68,5 +86,6 @@ NUMBERS_OF = {
     b"tax-net": tax,
     b"tax-gross": tax,
     b"net-for": price,
+    b"compound": compound,
     b"share": lambda source: source.amount() + source.weights(64, 10**6),
 }

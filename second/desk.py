@@ -3,6 +3,7 @@
 from amounts import Amount, negation_of, order_of, rescaled, sum_of
 from book import ALL_ZERO_BOOK, open_book, post, refund, totals
 from command import ALL_WELL, READING_OR_WRITING_FAILED, run
+from compound import compound
 from dates import Date
 from euro import convert
 from interest import interest
@@ -30,6 +31,11 @@ def said(answer, values_of):
     if isinstance(answer, Refusal):
         return refused(answer)
     return accepted(values_of(answer))
+
+
+def filled(refusal, lent):
+    """The answer line of a call that fills a lent list: all its places, or the refusal."""
+    return accepted(lent) if refusal is None else refused(refusal)
 
 
 def one_value(value):
@@ -88,11 +94,15 @@ class Desk:
     def net_for(self, numbers):
         return said(net_for(Amount(*numbers[:3]), *numbers[3:]), all_fields)
 
+    def compound(self, numbers):
+        rate, periods, room = numbers[3:]
+        lent = [-7] * room
+        return filled(compound(Amount(*numbers[:3]), rate, periods, lent), lent)
+
     def share(self, numbers):
         weights = numbers[3:]
         lent = [0] * len(weights)
-        refusal = share(Amount(*numbers[:3]), weights, lent)
-        return accepted(lent) if refusal is None else refused(refusal)
+        return filled(share(Amount(*numbers[:3]), weights, lent), lent)
 
     def open(self, numbers):
         refusal, self.book = open_book(numbers[0], numbers[1:])
@@ -126,6 +136,7 @@ VERBS = {
     b"tax-net": Desk.tax_net,
     b"tax-gross": Desk.tax_gross,
     b"net-for": Desk.net_for,
+    b"compound": Desk.compound,
     b"share": Desk.share,
     b"open": Desk.open,
     b"post": Desk.post,

@@ -23,9 +23,14 @@ def signed(bits):
     return lambda number: max(least, min(number, largest))
 
 
+def room(limit):
+    """The places of a lent list: a number over the limit, or below 0, is passed as the limit."""
+    return lambda number: number if 0 <= number <= limit else limit
+
+
 MODE = SCALE = CURRENCY = BASIS = MONTH = DAY = unsigned(8)
 YEAR = unsigned(16)
-RATE = WEIGHT = unsigned(32)
+RATE = WEIGHT = PERIODS = unsigned(32)
 DIVISOR = unsigned(64)
 COEFFICIENT = NUMERATOR = signed(64)
 AMOUNT = (CURRENCY, SCALE, COEFFICIENT)
@@ -66,6 +71,7 @@ FORMS = {
 }
 FORMS_OF_ASKS = {
     5: {b"net-for": [Form(AMOUNT + (RATE, MODE))]},
+    6: {b"compound": [Form(AMOUNT + (RATE, PERIODS, room(128)))]},
 }
 for ask in sorted(LANDED):
     FORMS.update(FORMS_OF_ASKS.get(ask, {}))

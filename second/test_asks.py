@@ -6,8 +6,9 @@ import asks
 asks.LANDED = asks.WRITTEN
 
 import checks
-from amounts import Amount
-from checks import same
+from amounts import Amount, L
+from checks import holds, same
+from compound import compound
 from dates import Date
 from interest import interest
 from refusals import Refusal
@@ -77,6 +78,35 @@ net-for 21 2 11 1000001 3 -> ! 4
 """)
 
 
+def compound_tables():
+    """The rows, and the last one against the closed form in whole numbers."""
+    lines("""
+compound 0 2 10000 500 3 4 -> = 10000 10500 11025 11576
+compound 0 2 10000 500 3 6 -> = 10000 10500 11025 11576 -7 -7
+compound 0 2 1 5000 1 2 -> = 1 1
+compound 0 2 3 5000 1 2 -> = 3 5
+compound 0 2 5 5000 1 2 -> = 5 7
+compound 0 2 7 500 0 1 -> = 7
+compound 0 2 7 500 0 0 -> ! 11
+compound 0 2 7 500 3 3 -> ! 11
+compound 0 2 7 500 121 128 -> ! 6
+compound 0 2 7 10001 3 4 -> ! 6
+compound 0 2 -1 500 3 4 -> ! 10
+compound 0 2 -1 500 3 3 -> ! 10
+compound 21 2 -1 500 3 4 -> ! 4
+""")
+    lent = [-7] * 8
+    same((compound(eur(L), 10_000, 3, lent), lent), (Refusal(13), [-7] * 8))
+    tables = ((10**6, 333, 12), (7, 5_000, 20), (12_345, 101, 120), (99, 9_999, 5))
+    for coefficient, rate, n in tables:
+        lent = [-7] * (n + 2)
+        same(compound(eur(coefficient), rate, n, lent), None)
+        same((lent[0], lent[-1]), (coefficient, -7))
+        exact = coefficient * (10_000 + rate) ** n
+        bound = sum((10_000 + rate) ** j * 10_000 ** (n - j) for j in range(n))
+        holds(2 * abs(lent[n] * 10_000**n - exact) <= bound)
+
+
 def fixed_cases_are_understood():
     """The lines of an ask's fixed cases, but for those that a comment says are not understood."""
     for ask in asks.WRITTEN:
@@ -91,5 +121,6 @@ def fixed_cases_are_understood():
 if __name__ == "__main__":
     american_and_european_months()
     nets_of_prices()
+    compound_tables()
     fixed_cases_are_understood()
     print(checks.passed)
