@@ -75,6 +75,18 @@ def compound(source):
     return [currency, scale, coefficient, rate, periods, room]
 
 
+def vouchers(source):
+    """Few vouchers mostly, equal and zero weights among the others."""
+    count = source.number(source.below(source.pick(5, 50, 300)), (0, 1))
+    if source.chance(2):
+        count = source.beside(10_000)
+    weights = source.weights(64, 10**6)
+    if source.chance(30):
+        weights = [source.pick(0, 1, 2, 3, 4, 6, 12) for _ in weights]
+    room = source.number(len(weights) + source.pick(0, 0, 0, 1, 2, -1), (0, 64, 80))
+    return [count, room] + weights
+
+
 NUMBERS_OF = {
     b"round": lambda source: [source.mode()] + numerator_and_divisor(source),
     b"sum": Source.two_amounts,
@@ -88,4 +100,5 @@ NUMBERS_OF = {
     b"net-for": price,
     b"compound": compound,
     b"share": lambda source: source.amount() + source.weights(64, 10**6),
+    b"vouchers": vouchers,
 }

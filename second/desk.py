@@ -13,6 +13,7 @@ from refusals import Refusal
 from rounding import round_quotient
 from sharing import share
 from tax import net_for, tax_from_gross, tax_from_net
+from vouchers import vouchers
 
 NOT_UNDERSTOOD = "?"
 
@@ -104,6 +105,11 @@ class Desk:
         lent = [0] * len(weights)
         return filled(share(Amount(*numbers[:3]), weights, lent), lent)
 
+    def vouchers(self, numbers):
+        count, room = numbers[:2]
+        lent = [77] * room
+        return filled(vouchers(count, numbers[2:], lent), lent)
+
     def open(self, numbers):
         refusal, self.book = open_book(numbers[0], numbers[1:])
         return "= open" if refusal is None else refused(refusal)
@@ -138,6 +144,7 @@ VERBS = {
     b"net-for": Desk.net_for,
     b"compound": Desk.compound,
     b"share": Desk.share,
+    b"vouchers": Desk.vouchers,
     b"open": Desk.open,
     b"post": Desk.post,
     b"refund": Desk.refund,

@@ -30,7 +30,7 @@ def room(limit):
 
 MODE = SCALE = CURRENCY = BASIS = MONTH = DAY = unsigned(8)
 YEAR = unsigned(16)
-RATE = WEIGHT = PERIODS = unsigned(32)
+RATE = WEIGHT = PERIODS = VOUCHERS = unsigned(32)
 DIVISOR = unsigned(64)
 COEFFICIENT = NUMERATOR = signed(64)
 AMOUNT = (CURRENCY, SCALE, COEFFICIENT)
@@ -72,6 +72,7 @@ FORMS = {
 FORMS_OF_ASKS = {
     5: {b"net-for": [Form(AMOUNT + (RATE, MODE))]},
     6: {b"compound": [Form(AMOUNT + (RATE, PERIODS, room(128)))]},
+    12: {b"vouchers": [Form((VOUCHERS, room(80)), further=WEIGHT)]},
 }
 for ask in sorted(LANDED):
     FORMS.update(FORMS_OF_ASKS.get(ask, {}))

@@ -5,6 +5,8 @@ import asks
 # before anything else is imported, since tables are made by what has landed
 asks.LANDED = asks.WRITTEN
 
+from fractions import Fraction
+
 import checks
 from amounts import Amount, L
 from checks import holds, same
@@ -15,6 +17,7 @@ from refusals import Refusal
 from rounding import HALF_UP, rounded
 from tax import net_for
 from test_lines import HERE, answers
+from vouchers import vouchers
 
 EUR = 0
 
@@ -107,6 +110,33 @@ compound 21 2 -1 500 3 4 -> ! 4
         holds(2 * abs(lent[n] * 10_000**n - exact) <= bound)
 
 
+def vouchers_by_highest_average():
+    lines("""
+vouchers 10 3 5 3 2 -> = 5 3 2
+vouchers 7 3 53 24 23 -> = 4 2 1
+vouchers 4 5 6 12 4 2 -> = 1 3 0 0 77
+vouchers 5 4 6 12 4 2 -> = 1 3 1 0
+vouchers 1 3 1 1 1 -> = 1 0 0
+vouchers 2 3 1 1 1 -> = 1 1 0
+vouchers 0 2 5 3 -> = 0 0
+vouchers 5 3 6 1 1 -> = 5 0 0
+vouchers 10001 1 5 3 -> ! 6
+vouchers 10 1 0 0 -> ! 9
+vouchers 10 1 -> ! 9
+vouchers 10 1 5 3 -> ! 11
+vouchers -1 0 -> ! 6
+""")
+    for weights in ((5, 3, 2), (1, 1, 1), (60,) + (1,) * 39, (0, 7, 0, 7, 3), (999_999, 0, 1)):
+        before = [0] * len(weights)
+        for count in range(1, 80):
+            held = list(before)
+            same(vouchers(count, weights, held), None)
+            same((sum(held), min(h - b for h, b in zip(held, before))), (count, 0))
+            least = min(Fraction(w, h) for w, h in zip(weights, held) if h > 0)
+            holds(least >= max(Fraction(w, h + 1) for w, h in zip(weights, held)))
+            before = held
+
+
 def fixed_cases_are_understood():
     """The lines of an ask's fixed cases, but for those that a comment says are not understood."""
     for ask in asks.WRITTEN:
@@ -122,5 +152,6 @@ if __name__ == "__main__":
     american_and_european_months()
     nets_of_prices()
     compound_tables()
+    vouchers_by_highest_average()
     fixed_cases_are_understood()
     print(checks.passed)
