@@ -2,10 +2,11 @@
 
 from typing import NamedTuple
 
+from asks import landed
 from refusals import answer
 from rounding import mode_unknown, rounded
 
-L = 99_999_999_999
+L = 999_999_999_999_999 if landed(7) else 99_999_999_999
 LARGEST_SCALE = 6
 
 

@@ -16,6 +16,33 @@ def numerator_and_divisor(source):
     return [source.number(usual, (0, 10**18, -(10**18))), divisor]
 
 
+def factors_and_divisor(source):
+    """Two factors and a divisor: halves, exact quotients, and quotients near 10^18."""
+    d, sign = 2 * (1 + source.below(10 ** source.pick(1, 6, 17))), source.pick(1, -1)
+    if source.chance(30):
+        odd = 2 * source.below(10**18 // d + 1) + 1
+        other_odd = 2 * source.below(10 ** source.pick(1, 9)) + 1
+        return [d // 2 * odd + source.pick(-1, 0, 0, 1), sign * other_odd, d]
+    if source.chance(20):
+        return [source.beside(10**18), sign * d + source.pick(-1, 0, 1), d]
+    a, b, d = (source.below(10 ** source.pick(1, 9, 18) + 1) for _ in range(3))
+    edges = (10**18, -(10**18))
+    factors = [source.number(sign * a, edges), source.number(b, edges)]
+    return factors + [source.number(d + 1, (1, 10**18, 0, 2**64))]
+
+
+def rounding(source):
+    product = landed(7) and source.chance(60)
+    return [source.mode()] + (factors_and_divisor if product else numerator_and_divisor)(source)
+
+
+def conversion(source):
+    numbers = source.own_digits_amount() + [source.currency()]
+    if landed(7) and source.chance(60):
+        numbers.append(source.number(3 + source.below(4), (3, 6)))
+    return numbers
+
+
 def tax(source):
     rate = source.number(source.pick(200000, 190000, 70000, source.below(10**6)), (0, 1, 10**6))
     return source.amount() + [rate, source.mode()]
@@ -88,12 +115,12 @@ def vouchers(source):
 
 
 NUMBERS_OF = {
-    b"round": lambda source: [source.mode()] + numerator_and_divisor(source),
+    b"round": rounding,
     b"sum": Source.two_amounts,
     b"order": Source.two_amounts,
     b"negate": Source.amount,
     b"rescale": lambda source: source.amount() + [source.scale(), source.mode()],
-    b"convert": lambda source: source.own_digits_amount() + [source.currency()],
+    b"convert": conversion,
     b"interest": interest,
     b"tax-net": tax,
     b"tax-gross": tax,

@@ -10,7 +10,7 @@ from interest import interest
 from lines import is_copied, understood
 from reading import Reading
 from refusals import Refusal
-from rounding import round_quotient
+from rounding import round_product, round_quotient
 from sharing import share
 from tax import net_for, tax_from_gross, tax_from_net
 from vouchers import vouchers
@@ -62,7 +62,8 @@ class Desk:
         return VERBS[verb](self, numbers)
 
     def round(self, numbers):
-        return said(round_quotient(*numbers), one_value)
+        call = round_quotient if len(numbers) == 3 else round_product
+        return said(call(*numbers), one_value)
 
     def sum(self, numbers):
         return said(sum_of(Amount(*numbers[:3]), Amount(*numbers[3:])), all_fields)

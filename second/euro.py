@@ -14,6 +14,7 @@ from rounding import HALF_UP, rounded
 EURO = 0
 EURO_DECIMALS = 2
 STEP_DECIMALS = 3
+MOST_STEP_DECIMALS = 6
 
 
 def divided_by_rate(amount, decimals):
@@ -32,9 +33,9 @@ def multiplied_by_rate(euros, decimals, target):
     return rounded(HALF_UP, n, d)
 
 
-def euro_step(amount):
-    """The euro step between two old units, at three decimals."""
-    return divided_by_rate(amount, STEP_DECIMALS)
+def euro_step(amount, step):
+    """The euro step between two old units, at that many decimals."""
+    return divided_by_rate(amount, step)
 
 
 def has_euro_step(amount, target):
@@ -42,7 +43,7 @@ def has_euro_step(amount, target):
     return EURO not in (amount.currency, target) and amount.currency != target
 
 
-def converted(amount, target):
+def converted(amount, target, step):
     """The amount in the target currency, at the target's own digits."""
     if amount.currency == target:
         return amount
@@ -51,22 +52,29 @@ def converted(amount, target):
     elif amount.currency == EURO:
         coefficient = multiplied_by_rate(amount.coefficient, EURO_DECIMALS, target)
     else:
-        coefficient = multiplied_by_rate(euro_step(amount), STEP_DECIMALS, target)
+        coefficient = multiplied_by_rate(euro_step(amount, step), step, target)
     return Amount(target, CURRENCIES[target].digits, coefficient)
 
 
-def step_or_result_over_L(amount, target):
-    if has_euro_step(amount, target) and over_L(euro_step(amount)):
+def step_or_result_over_L(amount, target, step):
+    if has_euro_step(amount, target) and over_L(euro_step(amount, step)):
         return True
-    return over_L(converted(amount, target).coefficient)
+    return over_L(converted(amount, target, step).coefficient)
 
 
-def convert(amount, target):
-    """The amount in the target currency, or a refusal."""
+def scale_or_step_refused(amount, step):
+    """The step is asked of every conversion, also of one that has none."""
+    if not STEP_DECIMALS <= step <= MOST_STEP_DECIMALS:
+        return True
+    return scale_over_6(amount.scale) or not_at_own_digits(amount)
+
+
+def convert(amount, target, step=STEP_DECIMALS):
+    """The amount in the target currency, by a step of that many decimals, or a refusal."""
     rows = [
-        (2, lambda: scale_over_6(amount.scale) or not_at_own_digits(amount)),
+        (2, lambda: scale_or_step_refused(amount, step)),
         (3, lambda: over_L(amount.coefficient)),
         (4, lambda: currency_over_20(amount.currency) or currency_over_20(target)),
-        (13, lambda: step_or_result_over_L(amount, target)),
+        (13, lambda: step_or_result_over_L(amount, target, step)),
     ]
-    return answer(rows, lambda: converted(amount, target))
+    return answer(rows, lambda: converted(amount, target, step))

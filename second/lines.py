@@ -28,11 +28,11 @@ def room(limit):
     return lambda number: number if 0 <= number <= limit else limit
 
 
-MODE = SCALE = CURRENCY = BASIS = MONTH = DAY = unsigned(8)
+MODE = SCALE = STEP = CURRENCY = BASIS = MONTH = DAY = unsigned(8)
 YEAR = unsigned(16)
 RATE = WEIGHT = PERIODS = VOUCHERS = unsigned(32)
 DIVISOR = unsigned(64)
-COEFFICIENT = NUMERATOR = signed(64)
+COEFFICIENT = NUMERATOR = FACTOR = signed(64)
 AMOUNT = (CURRENCY, SCALE, COEFFICIENT)
 DATE = (YEAR, MONTH, DAY)
 
@@ -72,10 +72,15 @@ FORMS = {
 FORMS_OF_ASKS = {
     5: {b"net-for": [Form(AMOUNT + (RATE, MODE))]},
     6: {b"compound": [Form(AMOUNT + (RATE, PERIODS, room(128)))]},
+    7: {
+        b"round": [Form((MODE, FACTOR, FACTOR, DIVISOR))],
+        b"convert": [Form(AMOUNT + (CURRENCY, STEP))],
+    },
     12: {b"vouchers": [Form((VOUCHERS, room(80)), further=WEIGHT)]},
 }
 for ask in sorted(LANDED):
-    FORMS.update(FORMS_OF_ASKS.get(ask, {}))
+    for verb, forms in FORMS_OF_ASKS.get(ask, {}).items():
+        FORMS[verb] = FORMS.get(verb, []) + forms
 
 WHOLE_NUMBER = re.compile(rb"-?[0-9]+")
 

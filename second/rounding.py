@@ -1,12 +1,13 @@
-"""The seven rounding modes, and the plain quotient."""
+"""The seven rounding modes, the plain quotient, and the quotient of a product."""
 
 from refusals import answer
 
 UP, DOWN, CEILING, FLOOR, HALF_UP, HALF_DOWN, HALF_EVEN = range(7)
 MODE_NAMES = ("UP", "DOWN", "CEILING", "FLOOR", "HALF_UP", "HALF_DOWN", "HALF_EVEN")
 
-LARGEST_NUMERATOR = 10**18
+LARGEST_FACTOR = 10**18
 LARGEST_DIVISOR = 10**18
+LARGEST_QUOTIENT = 10**18
 
 
 def floor_of(n, d):
@@ -67,11 +68,17 @@ def rounded(mode, n, d):
     return RULES[mode](n, d)
 
 
-def round_quotient(mode, n, d):
-    """The plain quotient n / d by the mode, or a refusal."""
+def round_product(mode, a, b, d):
+    """a x b / d by the mode, or a refusal."""
     rows = [
         (1, lambda: mode_unknown(mode)),
-        (3, lambda: abs(n) > LARGEST_NUMERATOR),
+        (3, lambda: abs(a) > LARGEST_FACTOR or abs(b) > LARGEST_FACTOR),
         (6, lambda: not 1 <= d <= LARGEST_DIVISOR),
+        (13, lambda: abs(rounded(mode, a * b, d)) > LARGEST_QUOTIENT),
     ]
-    return answer(rows, lambda: rounded(mode, n, d))
+    return answer(rows, lambda: rounded(mode, a * b, d))
+
+
+def round_quotient(mode, n, d):
+    """The plain quotient n / d by the mode, or a refusal; row 13 can't hold."""
+    return round_product(mode, n, 1, d)

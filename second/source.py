@@ -49,7 +49,7 @@ class Source:
         return self.number(self.below(21), (0, 20, 21))
 
     def magnitude(self):
-        return self.below(10 ** self.pick(1, 2, 3, 5, 8, 11))
+        return self.below(10 ** self.pick(1, 2, 3, 5, 8, len(str(L))))
 
     def coefficient(self):
         usual = self.pick(1, 1, -1) * self.magnitude()

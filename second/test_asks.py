@@ -12,9 +12,10 @@ from amounts import Amount, L
 from checks import holds, same
 from compound import compound
 from dates import Date
+from euro import convert
 from interest import interest
 from refusals import Refusal
-from rounding import HALF_UP, rounded
+from rounding import HALF_UP, round_product, round_quotient, rounded
 from tax import net_for
 from test_lines import HERE, answers
 from vouchers import vouchers
@@ -110,6 +111,40 @@ compound 21 2 -1 500 3 4 -> ! 4
         holds(2 * abs(lent[n] * 10_000**n - exact) <= bound)
 
 
+def products_and_larger_amounts():
+    lines("""
+round 6 3 5 2 -> = 8
+round 3 -3 5 2 -> = -8
+round 6 -5 2 -> = -2
+round 6 1000000000000000000 -1000000000000000000 1000000000000000000 -> = -1000000000000000000
+round 1 1000000000000000000 1000000000000000000 999999999999999999 -> ! 13
+round 4 666666666666666667 3 2 -> ! 13
+round 5 666666666666666667 3 2 -> = 1000000000000000000
+round 6 -666666666666666667 3 2 -> = -1000000000000000000
+round 4 0 1000000000000000001 1 -> ! 3
+round 4 1000000000000000001 0 0 -> ! 3
+round 4 1000000000000000000 1000000000000000000 0 -> ! 6
+round 7 1000000000000000001 0 0 -> ! 1
+convert 2 2 10000 4 -> = 4 2 33538
+convert 2 2 10000 4 3 -> = 4 2 33538
+convert 2 2 10000 4 4 -> = 4 2 33539
+convert 2 2 10000 4 6 -> = 4 2 33539
+convert 2 2 10000 4 2 -> ! 2
+convert 2 2 10000 4 7 -> ! 2
+convert 0 2 1 0 7 -> ! 2
+convert 21 2 1 0 7 -> ! 2
+convert 21 2 1 0 6 -> ! 4
+negate 0 2 999999999999999 -> = 0 2 -999999999999999
+negate 0 2 -1000000000000000 -> ! 3
+sum 0 2 999999999999999 0 2 1 -> ! 13
+""")
+    for step in (3, 4, 5, 6):
+        beyond = -(-(10**15 * 195583) // 10 ** (step + 3))
+        same(convert(Amount(2, 2, beyond), 14, step), Refusal(13))
+    for mode in range(7):
+        same(round_product(mode, -5, 1, 2), round_quotient(mode, -5, 2))
+
+
 def vouchers_by_highest_average():
     lines("""
 vouchers 10 3 5 3 2 -> = 5 3 2
@@ -142,7 +177,7 @@ def fixed_cases_are_understood():
     for ask in asks.WRITTEN:
         comment = b""
         for line in (HERE / f"ask{ask}.txt").read_bytes().split(b"\n")[:-1]:
-            if line.startswith(b"#"):
+            if line == b"" or line.startswith(b"#"):
                 comment = line
             not_understood = answers(line + b"\n") == [b"?"]
             same((line, not_understood), (line, b"not understood" in comment and line != comment))
@@ -152,6 +187,7 @@ if __name__ == "__main__":
     american_and_european_months()
     nets_of_prices()
     compound_tables()
+    products_and_larger_amounts()
     vouchers_by_highest_average()
     fixed_cases_are_understood()
     print(checks.passed)

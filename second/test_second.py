@@ -52,7 +52,7 @@ def mode_table():
 def worked_cases_of_conversion():
     same(convert(Amount(DEM, 2, 10000), EUR), eur(5113))
     same(convert(Amount(DEM, 2, 10000), FRF), Amount(FRF, 2, 33538))
-    same(euro_step(Amount(DEM, 2, 10000)), 51129)
+    same(euro_step(Amount(DEM, 2, 10000), 3), 51129)
     same(convert(Amount(DEM, 2, 100000000), EUR), eur(51129188))
     same(convert(Amount(ITL, 0, 1000000), EUR), eur(51646))
     same(convert(eur(2), IEP), Amount(IEP, 2, 2))
