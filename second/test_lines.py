@@ -4,6 +4,7 @@ import io
 import pathlib
 import re
 
+from asks import landed
 from checks import holds, same
 from desk import desk
 from generate import generated
@@ -73,6 +74,23 @@ def openings_at_the_desk():
     for line in (b"open 0 0", b"open 0"):
         same(answers(opened + line + b"\ntotals")[2:], [b"! 9", b"! 9"])
     same(answers(opened + b"open 21 1\ntotals")[2:], [b"! 4", b"! 9"])
+
+
+def lines_of_asks():
+    """A line of an ask is understood from its landing on, and not before."""
+    for ask, line in (
+        (5, b"net-for 0 2 4 200000 4"),
+        (6, b"compound 0 2 100 500 3 4"),
+        (7, b"round 6 3 5 2"),
+        (7, b"convert 2 2 10000 4 3"),
+        (12, b"vouchers 10 3 5 3 2"),
+    ):
+        same(answers(line) != [b"?"], landed(ask))
+    for line in (b"round 6 3 5 2 1", b"convert 2 2 10000 4 3 3", b"compound", b"vouchers 10"):
+        same(answers(line), [b"?"])
+    european_on_3 = b"interest 0 2 100000 500 3 2023 2 28 2023 3 31 4"
+    same(answers(european_on_3), [b"= 0 2 444 32" if landed(2) else b"! 6"])
+    same(answers(b"negate 0 2 100000000000") == [b"! 3"], not landed(7))
 
 
 def answers_have_the_right_form():

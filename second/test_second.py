@@ -264,6 +264,7 @@ if __name__ == "__main__":
     test_lines.ends_of_lines()
     test_lines.byte_order_mark()
     test_lines.openings_at_the_desk()
+    test_lines.lines_of_asks()
     test_lines.answers_have_the_right_form()
     test_rerun.report_text()
     test_rerun.openings_that_are_not_understood()
