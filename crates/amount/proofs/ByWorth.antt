@@ -75,9 +75,9 @@ says-found Greater x y h = rw (not-both y x (is-true (ltZ y x) (h .lt)), is-true
 pub exactly : (o : Order) (x y : ℤ) → (compared x y ≡ o) ↔ Says o x y
 exactly o x y = (λ e. subst (λ (p : Order). Says p x y) e (found-says x y), says-found o x y)
 
--- of two numbers exactly one order holds
-pub one-order : (o p : Order) (x y : ℤ) → Says o x y → Says p x y → o ≡ p
-one-order o p x y h k = sym (says-found o x y h) ∙ says-found p x y k
+-- of two numbers no other order holds
+pub no-other : (o p : Order) (x y : ℤ) → Says o x y → Says p x y → o ≡ p
+no-other o p x y h k = sym (says-found o x y h) ∙ says-found p x y k
 
 -- a common factor above 0 changes no order
 same-order : (x y : ℤ) (f : ℕ) → 0 < f → compared (x *ℤ pos f) (y *ℤ pos f) ≡ compared x y

@@ -5,4 +5,4 @@ pub mod ByWorth
 pub mod SumLaws
 pub mod RescaleLaws
 pub mod Unique
-pub mod InOrder
+pub mod ExactlyWhen

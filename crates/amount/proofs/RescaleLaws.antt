@@ -74,10 +74,10 @@ return a t rule rule₂ h sound scaled within =
     ∙ rw (le-ltb largest (magnitudeOf (a .coefficient)) (sound .within))
 
 -- THE LAW: an amount that was rescaled to a scale not below its own comes back from there, under every mode
-pub there-and-back : (a b : Amount) (t mode mode₂ : ℕ) → a .scale ≤ t → mode₂ ≤ 6 → rescaleSaid a t mode ≡ gives b
+pub up-and-back : (a b : Amount) (t mode mode₂ : ℕ) → a .scale ≤ t → mode₂ ≤ 6 → rescaleSaid a t mode ≡ gives b
     → rescaleSaid b (a .scale) mode₂ ≡ gives a
 unfolding rescaleSaid badMode
-there-and-back a b t mode mode₂ h chosen e =
+up-and-back a b t mode mode₂ h chosen e =
     let rule = ruleOf mode in
     let z = rescaled rule t a in
     let behind = accepted b (row Mode (badMode mode) ∷ []) (rescaleByRule rule t a) e in

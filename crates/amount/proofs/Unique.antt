@@ -31,18 +31,18 @@ module _ (r s : Answer) where
   pub one-answer : (said : Said Amount) → meansAmount r ≡ said → meansAmount s ≡ said → r ≡ s
   one-answer said p q = same-answer r s (p ∙ sym q)
 
-  pub sum-unique : (a b : Amount) → meansAmount r ≡ sumSaid a b → meansAmount s ≡ sumSaid a b → r ≡ s
-  sum-unique a b = one-answer (sumSaid a b)
+  pub one-sum : (a b : Amount) → meansAmount r ≡ sumSaid a b → meansAmount s ≡ sumSaid a b → r ≡ s
+  one-sum a b = one-answer (sumSaid a b)
 
-  pub negate-unique : (a : Amount) → meansAmount r ≡ negateSaid a → meansAmount s ≡ negateSaid a → r ≡ s
-  negate-unique a = one-answer (negateSaid a)
+  pub one-negate : (a : Amount) → meansAmount r ≡ negateSaid a → meansAmount s ≡ negateSaid a → r ≡ s
+  one-negate a = one-answer (negateSaid a)
 
-  pub rescale-unique : (a : Amount) (scale mode : ℕ)
+  pub one-rescale : (a : Amount) (scale mode : ℕ)
       → meansAmount r ≡ rescaleSaid a scale mode → meansAmount s ≡ rescaleSaid a scale mode → r ≡ s
-  rescale-unique a scale mode = one-answer (rescaleSaid a scale mode)
+  one-rescale a scale mode = one-answer (rescaleSaid a scale mode)
 
-  pub within-unique : (a : Amount) → meansAmount r ≡ limited (a .coefficient) a → meansAmount s ≡ limited (a .coefficient) a → r ≡ s
-  within-unique a = one-answer (limited (a .coefficient) a)
+  pub one-within : (a : Amount) → meansAmount r ≡ limited (a .coefficient) a → meansAmount s ≡ limited (a .coefficient) a → r ≡ s
+  one-within a = one-answer (limited (a .coefficient) a)
 
-pub order-unique : (r s : Ordered) (a b : Amount) → meansOrder r ≡ orderSaid a b → meansOrder s ≡ orderSaid a b → r ≡ s
-order-unique r s a b p q = same-ordered r s (p ∙ sym q)
+pub one-order : (r s : Ordered) (a b : Amount) → meansOrder r ≡ orderSaid a b → meansOrder s ≡ orderSaid a b → r ≡ s
+one-order r s a b p q = same-ordered r s (p ∙ sym q)

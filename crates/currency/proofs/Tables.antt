@@ -11,7 +11,7 @@ use lib.Dec.{T, leb, leb→le}
 use lib.ListN.{length, getD}
 use Rattle.currency.specs.declared.Currency.{Currency}
 use Rattle.currency.specs.declared.Line.{Line}
-use Rattle.currency.specs.Table.{line, currencies, lineOf, lastCurrency}
+use Rattle.currency.specs.Table.{none, currencies, lineOf, lastCurrency}
 use Rattle.currency.specs.Tens.{powerOfTen}
 
 -- the rule of a line: six figures, 2 to 6 places, and the currency's own digits at most 2, at most the places and at most 4 fewer
@@ -67,7 +67,7 @@ at f otherwise (x ∷ xs) t (suc k) h = at f otherwise xs (both (f x) (every f x
 -- THE LAW: every currency's line keeps the rule
 pub in-table : (c : Currency) → c .0 ≤ lastCurrency → Good (lineOf c)
 unfolding lineOf
-in-table c h = passes (getD currencies (c .0) (line 0 0 0 0 0 0)) (at good (line 0 0 0 0 0 0) currencies tt (c .0) (omega arith))
+in-table c h = passes (getD currencies (c .0) none) (at good none currencies tt (c .0) (omega arith))
 
 pub power-of-ten : (k : ℕ) → k ≤ 12 → powerOfTen k ≡ 10 ^ k
 unfolding powerOfTen

@@ -21,7 +21,7 @@ use Rattle.amount.specs.Amounts.{largest}
 use Rattle.euro.specs.Steps.{toEuro, fromEuro}
 
 -- a sign and a magnitude round by the magnitude
-signed-rounds : (rule : Rule) (sign : Bool) (m d : ℕ) → rounded rule (signedOf sign m) d ≡ signedOf sign (roundedMagnitude rule sign m d)
+pub signed-rounds : (rule : Rule) (sign : Bool) (m d : ℕ) → rounded rule (signedOf sign m) d ≡ signedOf sign (roundedMagnitude rule sign m d)
 unfolding rounded
 signed-rounds rule false m d = refl
 signed-rounds rule true zero d = rw (zero-rounds rule false d, zero-rounds rule true d)

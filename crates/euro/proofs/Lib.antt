@@ -2,6 +2,6 @@ pub mod CommonFactor
 pub mod HalfUnit
 pub mod Opposite
 pub mod SameCurrency
-pub mod Refusals
+pub mod ExactlyWhen
 pub mod Unique
 pub mod Lines

@@ -8,5 +8,5 @@ use Rattle.amount.specs.Amounts.{meansAmount}
 use Rattle.amount.proofs.Unique.{one-answer}
 use Rattle.euro.specs.Conversion.{convertSaid}
 
-pub convert-unique : (r s : Answer) (a : Amount) (to : Currency) → meansAmount r ≡ convertSaid a to → meansAmount s ≡ convertSaid a to → r ≡ s
-convert-unique r s a to = one-answer r s (convertSaid a to)
+pub one-convert : (r s : Answer) (a : Amount) (to : Currency) → meansAmount r ≡ convertSaid a to → meansAmount s ≡ convertSaid a to → r ≡ s
+one-convert r s a to = one-answer r s (convertSaid a to)

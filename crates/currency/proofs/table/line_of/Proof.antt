@@ -2,7 +2,7 @@
 use mathlib.Core.Path.{sym}
 use lib.ListN.{List·getD-eq-default}
 use Rattle.whole.proofs.Keys.{past-keys}
-use Rattle.currency.specs.Table.{line, currencies, lineOf}
+use Rattle.currency.specs.Table.{none, currencies, lineOf}
 use Rattle.currency.proofs.table.line_of.Statement.{statement}
 use Rattle.currency.proofs.table.line_of.Tie as tie
 
@@ -92,7 +92,7 @@ returns-21 c = rw (c .match .keys21)
 
 returns-22 : tie.Need-returns-22
 unfolding lineOf
-returns-22 c = sym (List·getD-eq-default currencies (line 0 0 0 0 0 0) (past-keys 21 (c .before .args .currency .0) (c .match .rest)))
+returns-22 c = sym (List·getD-eq-default currencies none (past-keys 21 (c .before .args .currency .0) (c .match .rest)))
 
 pub line-of-spec : {M : Type 1} → statement M
 line-of-spec =

@@ -1,22 +1,21 @@
--- All rows of a conversion, row 13 at the euro step and at the result among them: they stand in the table's order, so a number is
--- given exactly when a row of it holds and no row of a smaller number does. Assumes nothing.
+-- All rows of a conversion, row 13 at the euro step and at the result among them: they stand in the table's order, so a conversion gives a
+-- number exactly when a row of it holds and no row before it in that order does. Assumes nothing.
 use mathlib.Core.Path.{_≡_, refl, sym, _∙_}
 use mathlib.Core.Bool.{Bool, true, false, not, cond, _&&_}
 use mathlib.Core.List.{List, [], _∷_, _++_}
-use mathlib.Core.Logic.{_↔_}
 use Prim.Native.Nat.{ℕ}
 use lib.IntN.{ℤ}
 use Rattle.refusal.specs.declared.Checked.the-variants.{Passed}
 use Rattle.refusal.specs.declared.Refusal.the-variants.{Limit}
-use Rattle.refusal.specs.Rows.{Said, gives, Row, row, firstRow, checkOf, Holds}
+use Rattle.refusal.specs.Rows.{Said, gives, Row, row, firstRow, checkOf}
 use Rattle.refusal.proofs.Check.{behind, clear}
-use Rattle.refusal.proofs.ExactlyWhen.{Given, NoneBelow, exactly-when}
 use Rattle.whole.specs.Whole.{magnitudeOf}
 use Rattle.currency.specs.declared.Currency.{Currency}
 use Rattle.currency.specs.Table.{lineOf, same}
 use Rattle.currency.specs.Names.{EUR}
 use Rattle.amount.specs.declared.Amount.{Amount}
 use Rattle.amount.specs.Amounts.{overL}
+use Rattle.amount.proofs.ExactlyWhen.{ExactlyWhen, by-its-rows}
 use Rattle.euro.specs.Steps.{toEuro, fromEuro, cents, stepDecimals}
 use Rattle.euro.specs.Conversion.{convertRows, settled, exchanged, converted, convertSaid}
 
@@ -89,7 +88,6 @@ convert-said a to =
     (within (a .scale) (magnitudeOf (a .coefficient)) (a .currency) to passed))
     ∙ sym (behind (gives (resultOf a to)) (givenRows a to) (limitRows a to))
 
-pub convert-exactly-when : (a : Amount) (to : Currency) (number : ℕ)
-    → Given (resultOf a to) number (allRows a to) ↔ (Holds number (allRows a to) × NoneBelow number (allRows a to))
+pub convert-exactly-when : (a : Amount) (to : Currency) → ExactlyWhen (convertSaid a to) (allRows a to)
 unfolding convertRows
-convert-exactly-when a to number = exactly-when (resultOf a to) number (allRows a to) tt
+convert-exactly-when a to = by-its-rows (record { by-rows = convert-said a to; rises = tt })

@@ -1,5 +1,5 @@
--- Every call's answer is the first of its rows that holds, else its value, and its rows stand in the table's order: so a number is given
--- exactly when a row of it holds and no row of a smaller number does. Assumes nothing.
+-- Every call's answer is the first of its rows that holds, else its value, and its rows stand in the table's order: so a call gives a number
+-- exactly when a row of it holds and no row before it in that order does. Assumes nothing.
 use mathlib.Core.Path.{_≡_, refl, sym, _∙_, ap}
 use mathlib.Core.List.{List, [], _∷_, _++_}
 use mathlib.Core.Logic.{_↔_}
@@ -7,7 +7,7 @@ use Prim.Native.Nat.{ℕ}
 use lib.Dec.{T}
 use lib.IntN.{ℤ, negℤ}
 use Rattle.refusal.specs.declared.Refusal.the-variants.{Mode, Limit}
-use Rattle.refusal.specs.Rows.{Said, gives, Row, row, firstRow, rising, Holds}
+use Rattle.refusal.specs.Rows.{Said, gives, refuses, Row, row, firstRow, rising, Holds}
 use Rattle.refusal.proofs.Check.{behind}
 use Rattle.refusal.proofs.ExactlyWhen.{Given, NoneBelow, exactly-when}
 use Rattle.whole.specs.Whole.{magnitudeOf}
@@ -29,10 +29,19 @@ pub record Decides {A : Type 0} (said : Said A) (rows : List Row) (value : A) : 
 abbrev pub limitRow : ℤ → List Row
 limitRow result = row Limit (overL (magnitudeOf result)) ∷ []
 
--- THE LAW, for every call below
-pub number-given : {A : Type 0} {said : Said A} (rows : List Row) (value : A) → Decides said rows value
-    → (n : ℕ) → Given value n rows ↔ (Holds n rows × NoneBelow n rows)
-number-given rows value d n = exactly-when value n rows (d .rises)
+-- a call says number n
+abbrev pub SaysNumber : {A : Type 0} → Said A → ℕ → Type 0
+SaysNumber said n = (blamed : ℕ) × (said ≡ refuses n blamed)
+
+-- THE LAW, for every call: it says a number exactly when a row of that number holds and none before it does
+abbrev pub ExactlyWhen : {A : Type 0} → Said A → List Row → Type 0
+ExactlyWhen said rows = (n : ℕ) → SaysNumber said n ↔ (Holds n rows × NoneBelow n rows)
+
+pub by-its-rows : {A : Type 0} {said : Said A} {rows : List Row} {value : A} → Decides said rows value → ExactlyWhen said rows
+unfolding Given
+by-its-rows {rows = rows} {value = value} d n =
+    let law = exactly-when value n rows (d .rises) in
+    (λ (blamed, e). law .0 (blamed, sym (d .by-rows) ∙ e), λ h. let given = law .1 h in (given .0, d .by-rows ∙ given .1))
 
 pub within-rows : (a : Amount) → Decides (limited (a .coefficient) a) (limitRow (a .coefficient)) a
 within-rows a = record { by-rows = refl; rises = tt }
@@ -72,3 +81,19 @@ rescale-rows a t mode =
       by-rows = sym (behind v first (rows ++ last) ∙ ap (λ (x : Said Amount). firstRow first x) (behind v rows last));
       rises = tt;
     }
+
+-- each call
+pub within-exactly-when : (a : Amount) → ExactlyWhen (limited (a .coefficient) a) (limitRow (a .coefficient))
+within-exactly-when a = by-its-rows (within-rows a)
+
+pub sum-exactly-when : (a b : Amount) → ExactlyWhen (sumSaid a b) (sumRows a b)
+sum-exactly-when a b = by-its-rows (sum-rows a b)
+
+pub order-exactly-when : (a b : Amount) → ExactlyWhen (orderSaid a b) (rowsOfTwo a b)
+order-exactly-when a b = by-its-rows (order-rows a b)
+
+pub negate-exactly-when : (a : Amount) → ExactlyWhen (negateSaid a) (amountRows (a .scale) (magnitudeOf (a .coefficient)) (a .currency))
+negate-exactly-when a = by-its-rows (negate-rows a)
+
+pub rescale-exactly-when : (a : Amount) (scale mode : ℕ) → ExactlyWhen (rescaleSaid a scale mode) (allRescaleRows a scale mode)
+rescale-exactly-when a scale mode = by-its-rows (rescale-rows a scale mode)
