@@ -5,3 +5,4 @@ pub mod SameCurrency
 pub mod ExactlyWhen
 pub mod Unique
 pub mod Lines
+pub mod ThereAndBack
