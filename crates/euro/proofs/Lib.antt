@@ -1,4 +1,5 @@
-pub mod CommonFactor
+pub mod Magnitudes
+pub mod Settled
 pub mod HalfUnit
 pub mod Opposite
 pub mod SameCurrency

@@ -3,7 +3,7 @@
 -- Where 10^(2 + k) is less than K x 10^s, the amount comes back unchanged." Each step is at most half a unit from exact, so one argument
 -- serves every line of the table. Assumes nothing.
 use mathlib.Core.Path.{_≡_, sym, _∙_, ap, ap₂, subst}
-use mathlib.Core.Bool.{Bool, false}
+use mathlib.Core.Bool.{false}
 use Prim.Native.Nat.{ℕ, _+_, _-_, _*_, _<_, _≤_}
 use native.Mathlib.Decide.{decLe}
 use native.Mathlib.Nat.{mul-pos, one-le-pow, lt-of-mul-lt-mul-right}
@@ -20,7 +20,6 @@ use Rattle.rounding.specs.declared.Rule.the-variants.{HalfUp}
 use Rattle.rounding.specs.Leaf.{rounded, roundedMagnitude}
 use Rattle.rounding.proofs.Apart.{distance, apart}
 use Rattle.rounding.proofs.Nearest.{Near as Nearest, nearest, half-up}
-use Rattle.rounding.proofs.Order.{signed-times}
 use Rattle.currency.specs.declared.Currency.{Currency}
 use Rattle.currency.specs.declared.Line.{Line}
 use Rattle.currency.specs.Table.{lineOf, lastCurrency}
@@ -30,7 +29,7 @@ use Rattle.amount.specs.declared.Amount.{Amount}
 use Rattle.euro.specs.Steps.{toEuro, fromEuro, cents}
 use Rattle.euro.specs.Conversion.{convertRows, convertSaid}
 use Rattle.euro.specs.ThereAndBack.{unit, parts, Near, Finer}
-use Rattle.euro.proofs.CommonFactor.{signed-rounds}
+use Rattle.euro.proofs.Magnitudes.{step}
 use Rattle.euro.proofs.HalfUnit.{has-rate}
 use Rattle.euro.proofs.ExactlyWhen.{convert-said, made, resultOf, allRows}
 
@@ -51,9 +50,6 @@ near-twice A B m u b there back = go (decLe m b)
 module _ (l : Line) (rate : 0 < l .figures) where
   some : 0 < unit l
   some = mul-pos rate (one-le-pow (l .digits) 10 (omega arith))
-
-  step : (sign : Bool) (m f d : ℕ) → rounded HalfUp (signedOf sign m *ℤ pos f) d ≡ signedOf sign (roundedMagnitude HalfUp sign (m * f) d)
-  step sign m f d = ap (λ (z : ℤ). rounded HalfUp z d) (signed-times sign m f) ∙ signed-rounds HalfUp sign (m * f) d
 
   -- there and back by sign and magnitude: the magnitudes' distance is bounded
   returned : (n : ℤ)

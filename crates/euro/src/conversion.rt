@@ -9,15 +9,16 @@ use currency::power_of_ten;
 use refusal::Checked;
 use refusal::Refusal;
 use rounding::Rule;
-use rounding::round;
+use rounding::round_product;
 use whole::is_negative;
 use whole::magnitude;
 use whole::signed;
 ghost use mathlib.Core.Path.{_≡_};
-ghost use Prim.Native.Nat.{_^_, _≤_};
+ghost use Prim.Native.Nat.{_+_, _^_, _≤_};
 ghost use Rattle.refusal.specs.Rows.{checkOf};
 ghost use Rattle.refusal.specs.declared.Checked.the-variants.{Passed};
 ghost use Rattle.whole.specs.Whole.{magnitudeOf, signedOf};
+ghost use Rattle.rounding.specs.Product.{capped};
 ghost use Rattle.amount.specs.Amounts.{largest, meansAmount};
 ghost use Rattle.currency.specs.Table.{lastCurrency, lineOf};
 ghost use Rattle.euro.specs.Steps.{toEuro, fromEuro};
@@ -30,32 +31,31 @@ const CENTS: u8 = 2;
 // The decimals of the euro step between two old units.
 const STEP: u8 = 3;
 
-// Old unit to euro at 2 or 3 decimals, divided by the rate. The factor 10^digits of numerator and divisor is left out, so that
-// the product fits.
+// Old unit to euro at 2 or 3 decimals, divided by the rate; as the leaf gives it, one more than 10^18 where it is over that.
 fn to_euro(from: Currency, decimals: u8, negative: bool, m: u64) -> u64
     requires { ⌜ (from .0 ≤ lastCurrency) × (decimals ≤ 3) × (m ≤ largest) ⌝ }
-    ensures { λ r. ⌜ (signedOf negative r ≡ toEuro (lineOf from) decimals (signedOf negative m)) × (r ≤ 10 ^ 18) ⌝ }
+    ensures { λ r. ⌜ r ≡ capped (magnitudeOf (toEuro (lineOf from) decimals (signedOf negative m))) ⌝ }
 {
     let line = line_of(from);
-    let shift = power_of_ten(line.places + decimals - line.digits);
-    let rate = line.figures;
-    round(Rule::HalfUp, negative, m * shift, rate)
+    let parts = power_of_ten(line.places + decimals);
+    let unit = line.figures * power_of_ten(line.digits);
+    round_product(Rule::HalfUp, negative, m, parts, unit)
 }
 
-// Euro at 2 or 3 decimals to the old unit, multiplied by the rate.
+// Euro at 2 or 3 decimals to the old unit, multiplied by the rate; as the leaf gives it.
 fn from_euro(to: Currency, decimals: u8, negative: bool, m: u64) -> u64
     requires { ⌜ (to .0 ≤ lastCurrency) × (decimals ≤ 3) × (m ≤ largest) ⌝ }
-    ensures { λ r. ⌜ (signedOf negative r ≡ fromEuro (lineOf to) decimals (signedOf negative m)) × (r ≤ 10 ^ 18) ⌝ }
+    ensures { λ r. ⌜ r ≡ capped (magnitudeOf (fromEuro (lineOf to) decimals (signedOf negative m))) ⌝ }
 {
     let line = line_of(to);
-    let shift = power_of_ten(line.places + decimals - line.digits);
-    let rate = line.figures;
-    round(Rule::HalfUp, negative, m * rate, shift)
+    let parts = power_of_ten(line.places + decimals);
+    let unit = line.figures * power_of_ten(line.digits);
+    round_product(Rule::HalfUp, negative, m, unit, parts)
 }
 
 // The amount of a magnitude in a currency, at its own digits; refusal 13 where it is over L.
 fn settle(to: Currency, negative: bool, m: u64) -> Answer
-    requires { ⌜ m ≤ 10 ^ 18 ⌝ }
+    requires { ⌜ m ≤ 10 ^ 18 + 1 ⌝ }
     ensures { λ r. ⌜ meansAmount r ≡ settled to (signedOf negative m) ⌝ }
 {
     let line = line_of(to);

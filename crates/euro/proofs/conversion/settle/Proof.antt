@@ -1,4 +1,4 @@
--- An i64 holds the magnitude with its sign, since it is within 10^18. Assumes nothing.
+-- An i64 holds the magnitude with its sign, since it is at most one more than 10^18. Assumes nothing.
 use mathlib.Core.Path.{_∙_, ap, ap₂}
 use Prim.Native.Nat.{ℕ}
 use native.Mathlib.Omega.{arith}

@@ -1,6 +1,5 @@
 -- The euro step as it was computed is the definition's, so its test is row 13's and the second step starts from it. Assumes nothing.
-use mathlib.Core.Path.{_≡_, _∙_, ap}
-use mathlib.Core.Bool.{Bool}
+use mathlib.Core.Path.{_≡_, _∙_, ap, subst}
 use mathlib.Core.List.{[], _∷_}
 use Prim.Native.Nat.{ℕ, _<_, _≤_}
 use borrow.Author.Needs.{needs}
@@ -9,13 +8,15 @@ use lib.IntN.{ℤ}
 use Rattle.refusal.specs.Rows.{Said, refuses, row, firstRow}
 use Rattle.refusal.specs.declared.Refusal.the-variants.{Limit}
 use Rattle.whole.specs.Whole.{magnitudeOf, signedOf}
-use Rattle.whole.proofs.Laws.{magnitude-signed}
+use Rattle.rounding.specs.Product.{capped}
 use Rattle.currency.specs.declared.Currency.{Currency}
 use Rattle.currency.specs.Table.{lineOf}
 use Rattle.amount.specs.declared.Amount.{Amount}
 use Rattle.amount.specs.Amounts.{largest, overL}
-use Rattle.euro.specs.Steps.{fromEuro, stepDecimals}
+use Rattle.euro.specs.Steps.{toEuro, fromEuro, stepDecimals}
 use Rattle.euro.specs.Conversion.{settled}
+use Rattle.euro.proofs.Magnitudes.{to-euro-sign, from-euro-sign}
+use Rattle.euro.proofs.Settled.{capped-least, over, same, settles}
 use Rattle.euro.proofs.conversion.through_euro.Statement.{statement}
 use Rattle.euro.proofs.conversion.through_euro.Tie as tie
 
@@ -23,36 +24,52 @@ use Rattle.euro.proofs.conversion.through_euro.Tie as tie
 abbrev onward : Currency → ℤ → Said Amount
 onward to step = firstRow (row Limit (overL (magnitudeOf step)) ∷ []) (settled to (fromEuro (lineOf to) stepDecimals step))
 
-module _ (to : Currency) (sign : Bool) (m : ℕ) where
-  over : largest < m → refuses 13 0 ≡ onward to (signedOf sign m)
-  over h = rw (magnitude-signed sign m, lt-ltb largest m h)
+module _ (to : Currency) (step : ℤ) where
+  over-l : largest < capped (magnitudeOf step) → refuses 13 0 ≡ onward to step
+  over-l h = rw (lt-ltb largest (magnitudeOf step) (over (magnitudeOf step) h))
 
-  within : m ≤ largest → settled to (fromEuro (lineOf to) stepDecimals (signedOf sign m)) ≡ onward to (signedOf sign m)
-  within h = rw (magnitude-signed sign m, le-ltb largest m h)
+  within : capped (magnitudeOf step) ≤ largest → settled to (fromEuro (lineOf to) stepDecimals step) ≡ onward to step
+  within h = rw (le-ltb largest (magnitudeOf step) (subst (λ (n : ℕ). n ≤ largest) (same (magnitudeOf step) h) h))
 
 to-euro-requires : tie.Need-to-euro-requires
 to-euro-requires c κs = search needs
 
+-- the euro step of the definition
+stepOf : (s : tie.After-to-euro) → ℤ
+stepOf s = let a = s .before .args in toEuro (lineOf (a .from)) stepDecimals (signedOf (a .negative) (a .m))
+
 returns : tie.Need-returns
-returns c =
-    let s = c .before in
-    let a = s .before .args in
-    over (a .to) (a .negative) (s .to-euro .result) (c .if1 .taken) ∙ ap (onward (a .to)) (s .to-euro .ensures .0)
+unfolding stepOf
+returns c = let s = c .before in over-l (s .before .args .to) (stepOf s) (subst (λ (n : ℕ). largest < n) (s .to-euro .ensures) (c .if1 .taken))
 
 from-euro-requires : tie.Need-from-euro-requires
 from-euro-requires c κs = search needs
 
 settle-requires : tie.Need-settle-requires
-settle-requires c κs = search needs
+settle-requires c κs = rw (c .from-euro .ensures) (capped-least _)
+
+-- within L the step is what was computed
+computed : (c : tie.Else1) → signedOf (c .before .before .args .negative) (c .before .to-euro .result) ≡ stepOf (c .before)
+unfolding stepOf
+computed c =
+    let s = c .before in
+    let a = s .before .args in
+    ap (signedOf (a .negative))
+    (s .to-euro .ensures ∙ same (magnitudeOf (stepOf s)) (subst (λ (n : ℕ). n ≤ largest) (s .to-euro .ensures) (c .if1 .left)))
+    ∙ to-euro-sign (lineOf (a .from)) stepDecimals (a .negative) (a .m)
 
 returns-2 : tie.Need-returns-2
+unfolding stepOf
 returns-2 c =
-    let s = c .before .before .before in
+    let e = c .before .before in
+    let s = e .before in
     let a = s .before .args in
+    let n = s .to-euro .result in
     c .settle .ensures
-    ∙ ap (settled (a .to)) (c .before .from-euro .ensures .0)
-    ∙ within (a .to) (a .negative) (s .to-euro .result) (c .before .before .if1 .left)
-    ∙ ap (onward (a .to)) (s .to-euro .ensures .0)
+    ∙ ap (λ (m : ℕ). settled (a .to) (signedOf (a .negative) m)) (c .before .from-euro .ensures)
+    ∙ settles (a .to) (a .negative) (fromEuro (lineOf (a .to)) stepDecimals (signedOf (a .negative) n)) (from-euro-sign (lineOf (a .to)) stepDecimals (a .negative) n)
+    ∙ ap (λ (z : ℤ). settled (a .to) (fromEuro (lineOf (a .to)) stepDecimals z)) (computed e)
+    ∙ within (a .to) (stepOf s) (subst (λ (n : ℕ). n ≤ largest) (s .to-euro .ensures) (e .if1 .left))
 
 pub through-euro-spec : {M : Type 1} → statement M
 through-euro-spec =
