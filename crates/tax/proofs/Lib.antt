@@ -2,6 +2,6 @@ mod Value
 pub mod Adds
 pub mod Bounds
 pub mod NeverOver
-pub mod OneAnswer
+pub mod Unique
 pub mod ExactlyWhen
 pub mod Lines

@@ -1,20 +1,18 @@
 -- Document 01, "Tax in and out of a price". Cited by `tax_from_net` and `tax_from_gross`. Assumes nothing.
 use mathlib.Core.Bool.{Bool}
-use mathlib.Core.List.{List, [], _∷_}
+use mathlib.Core.List.{List, [], _∷_, _++_}
 use Prim.Native.Nat.{ℕ, _+_}
-use lib.Dec.{ltb}
 use lib.IntN.{ℤ, pos, _+ℤ_, _-ℤ_, _*ℤ_}
 use Rattle.refusal.specs.Number.{numberOf, blamedOf}
-use Rattle.refusal.specs.Rows.{Said, gives, refuses, Row, row, firstRow}
-use Rattle.refusal.specs.declared.Refusal.the-variants.{Mode, Scale, Magnitude, Unknown, Rate, Limit}
+use Rattle.refusal.specs.Rows.{Said, gives, refuses, Row, row, firstRow, rateRows}
+use Rattle.refusal.specs.declared.Refusal.the-variants.{Mode, Limit}
 use Rattle.whole.specs.Whole.{magnitudeOf}
 use Rattle.rounding.specs.declared.Rule.{Rule}
 use Rattle.rounding.specs.Modes.{badMode, ruleOf}
 use Rattle.rounding.specs.Leaf.{rounded}
 use Rattle.currency.specs.declared.Currency.{Currency}
-use Rattle.currency.specs.Table.{unknown}
 use Rattle.amount.specs.declared.Amount.{Amount}
-use Rattle.amount.specs.Amounts.{badScale, overL}
+use Rattle.amount.specs.Amounts.{overL, amountRows}
 use Rattle.tax.specs.declared.Split.{Split}
 use Rattle.tax.specs.declared.Taxed.{Taxed}
 use Rattle.tax.specs.declared.Taxed.the-variants.{Value, Refused}
@@ -30,8 +28,7 @@ million = 1000000
 
 -- the rows behind row 1 and before row 13: an amount's, and row 6 at the rate
 unfoldable pub taxRows : (scale m : ℕ) → Currency → (rate : ℕ) → List Row
-taxRows scale m currency rate =
-    row Scale (badScale scale) ∷ row Magnitude (overL m) ∷ row Unknown (unknown currency) ∷ row Rate (ltb million rate) ∷ []
+taxRows scale m currency rate = amountRows scale m currency ++ rateRows million rate
 
 -- an amount with another coefficient
 abbrev pub like : Amount → ℤ → Amount

@@ -6,6 +6,7 @@ use amount::check_one;
 use currency::Currency;
 use refusal::Checked;
 use refusal::Refusal;
+use refusal::check_rate;
 use rounding::Choice;
 use rounding::round;
 use rounding::rule_of;
@@ -29,11 +30,7 @@ fn check(scale: u8, m: u64, currency: Currency, rate: u32) -> Checked
 {
     match check_one(scale, m, currency) {
         Checked::Refused(refusal) => Checked::Refused(refusal),
-        Checked::Passed => if MILLION < rate as u64 {
-            Checked::Refused(Refusal::Rate)
-        } else {
-            Checked::Passed
-        },
+        Checked::Passed => check_rate(rate, MILLION as u32),
     }
 }
 

@@ -15,8 +15,8 @@ one-to-one (Refused r) (Value q) e = let z : _≡_ {A = ℕ} 0 1 = cc in absurd 
 one-to-one (Refused r) (Refused s) e = ap Refused (same-refusal r s e)
 
 module _ (a : Amount) (rate mode : ℕ) (r s : Taxed) where
-  pub one-from-net : meansTax r ≡ fromNetSaid a rate mode → meansTax s ≡ fromNetSaid a rate mode → r ≡ s
-  one-from-net p q = one-to-one r s (p ∙ sym q)
+  pub one-tax-from-net : meansTax r ≡ fromNetSaid a rate mode → meansTax s ≡ fromNetSaid a rate mode → r ≡ s
+  one-tax-from-net p q = one-to-one r s (p ∙ sym q)
 
-  pub one-from-gross : meansTax r ≡ fromGrossSaid a rate mode → meansTax s ≡ fromGrossSaid a rate mode → r ≡ s
-  one-from-gross p q = one-to-one r s (p ∙ sym q)
+  pub one-tax-from-gross : meansTax r ≡ fromGrossSaid a rate mode → meansTax s ≡ fromGrossSaid a rate mode → r ≡ s
+  one-tax-from-gross p q = one-to-one r s (p ∙ sym q)
