@@ -59,7 +59,7 @@ module _ (ws : List ℕ) (some : 0 < length ws) where
     kept-next i j l m h (no e) (yes f) =
         let was = b .kept i p l (is .0) (rw (still i e) at h) in
         let grown : getD ws i 0 * (getD held p 0 + 1) ≤ getD ws i 0 * (getD held p 0 + 1 + 1) = mul-le-mul-left (getD ws i 0) (omega arith) in
-        rw (f, raised, still i e) (record { least = omega (arith, was .least); tie = λ t. was .tie (omega (arith, was .least)) })
+        rw (f, raised, still i e) (record { least = omega (arith, was .least); tie = λ t. omega (arith, was .tie (omega (arith, was .least))) })
     kept-next i j l m h (no e) (no f) = rw (still i e, still j f) (b .kept i j l m (rw (still i e) at h))
 
     pub balanced-next : Balanced ws (give ws held)

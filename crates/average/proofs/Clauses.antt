@@ -1,22 +1,17 @@
 -- What document 02, Ask 12, says of the vouchers, sentence by sentence, for any weights with a sum above 0. Assumes nothing.
 use mathlib.Core.Path.{_≡_, refl, _∙_}
-use mathlib.Core.List.{List, [], _∷_}
+use mathlib.Core.List.{List}
 use Prim.Native.Nat.{ℕ, zero, suc, _+_, _-_, _*_, _≤_, _<_}
 use native.Mathlib.Nat.{le-refl, le-trans, le-dest, add-zero, add-suc}
 use native.Mathlib.Omega.{arith}
 use lib.ListN.{length, getD, replicate, length-replicate}
 use Rattle.whole.specs.Sums.{sumOf}
 use Rattle.whole.proofs.Sums.{sum-list, sum-le, sum-noughts}
+use Rattle.remainder.proofs.Shares.{places}
 use Rattle.average.specs.Rule.{giveOut, vouchersOf}
 use Rattle.average.specs.Wording.{Balanced}
 use Rattle.average.proofs.Balanced.{given-length, given-sum, next-not-less}
 use Rattle.average.proofs.Wording.{vouchers-balanced}
-
--- a sum above 0 has a place
-places : (ws : List ℕ) → 1 ≤ sumOf ws → 0 < length ws
-unfolding sumOf
-places [] weighs = absurd (omega arith)
-places (w ∷ ws) weighs = omega arith
 
 -- as many holdings as weights
 pub holders : (n : ℕ) (ws : List ℕ) → length (vouchersOf n ws) ≡ length ws

@@ -26,8 +26,8 @@ module _ (ws held : List ℕ) where
   Highest n p = (p < n) × ((q : ℕ) → q < n → Before (getD ws p 0) (getD held p 0 + 1) p (getD ws q 0) (getD held q 0 + 1) q)
 
   only : (b : Bool) → Highest 1 (cond b 0 0)
-  only true = (omega arith, and-last _ 0 (λ q l. absurd (omega arith)) (record { least = le-refl _; tie = λ e. le-refl 0 }))
-  only false = (omega arith, and-last _ 0 (λ q l. absurd (omega arith)) (record { least = le-refl _; tie = λ e. le-refl 0 }))
+  only true = (omega arith, and-last _ 0 (λ q l. absurd (omega arith)) (record { least = le-refl _; tie = λ e. omega arith }))
+  only false = (omega arith, and-last _ 0 (λ q l. absurd (omega arith)) (record { least = le-refl _; tie = λ e. omega arith }))
 
   one-more : (n p : ℕ) → Highest n p → (b : Bool) → ltb (getD ws p 0 * (getD held n 0 + 1)) (getD ws n 0 * (getD held p 0 + 1)) ≡ b
       → Highest (suc n) (cond b n p)
@@ -39,7 +39,7 @@ module _ (ws held : List ℕ) where
         omega arith,
         and-last _ n
             (λ q l. record { least = omega (arith, less q l); tie = λ e. absurd (omega (arith, less q l)) })
-            (record { least = le-refl _; tie = λ e. le-refl n }),
+            (record { least = le-refl _; tie = λ e. omega arith }),
       )
   one-more n p before false test =
       let most = ltb-false (getD ws p 0 * (getD held n 0 + 1)) (getD ws n 0 * (getD held p 0 + 1)) test in

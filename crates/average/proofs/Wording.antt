@@ -29,8 +29,8 @@ module _ (ws h k : List ℕ) (a : Balanced ws h) (b : Balanced ws k) where
       let other = b .kept j i m l (omega arith) in
       let up : v * (getD h j 0 + 1) ≤ v * getD k j 0 = mul-le-mul-left v (omega arith) in
       let down : w * (getD k i 0 + 1) ≤ w * getD h i 0 = mul-le-mul-left w (omega arith) in
-      let lower : i ≤ j = one .tie (omega (arith, one .least, other .least)) in
-      let upper : j ≤ i = other .tie (omega (arith, one .least, other .least)) in
+      let lower : i ≤ j = omega (arith, one .tie (omega (arith, one .least, other .least))) in
+      let upper : j ≤ i = omega (arith, other .tie (omega (arith, one .least, other .least))) in
       let equal : i ≡ j = omega arith in
       let there : getD h i 0 ≡ getD h j 0 = ap (λ (x : ℕ). getD h x 0) equal in
       let also : getD k i 0 ≡ getD k j 0 = ap (λ (x : ℕ). getD k x 0) equal in omega arith

@@ -3,7 +3,7 @@
 use mathlib.Core.Path.{_≡_, sym, _∙_, ap}
 use mathlib.Core.List.{List, [], _∷_, map}
 use Prim.Native.Nat.{ℕ, _+_, _*_, _/_, _%_, _≤_, _<_}
-use native.Mathlib.Nat.{div-add-mod', mod-lt, zero-div, zero-mod, mul-zero, le-of-mul-le-mul-right}
+use native.Mathlib.Nat.{div-add-mod', mod-lt, zero-div, zero-mod, mul-zero, le-of-mul-le-mul-right, lt-of-mul-lt-mul-right}
 use native.Mathlib.Omega.{arith}
 use lib.ListN.{length, getD, length-map, List·getD-map}
 use Rattle.whole.specs.Sums.{sumOf}
@@ -17,6 +17,12 @@ split : (m W : ℕ) (ws : List ℕ) → sumOf (map (λ w. m * w / W) ws) * W + s
 unfolding sumOf
 split m W [] = omega arith
 split m W (w ∷ ws) = omega (arith, split m W ws, div-add-mod' (m * w) W)
+
+-- each remainder is below W
+small : (m W : ℕ) → 1 ≤ W → (ws : List ℕ) → sumOf (map (λ w. m * w % W) ws) + length ws ≤ length ws * W
+unfolding sumOf
+small m W some [] = omega arith
+small m W some (w ∷ ws) = omega (arith, small m W some ws, mod-lt (m * w) some)
 
 module _ (m : ℕ) (ws : List ℕ) where
   pub rounded-length : length (roundedDown m ws) ≡ length ws
@@ -52,3 +58,9 @@ module _ (m : ℕ) (ws : List ℕ) where
     remainders-sum =
         let parts : (sumOf (roundedDown m ws) + unitsLeft m ws) * sumOf ws ≡ m * sumOf ws = ap (λ (x : ℕ). x * sumOf ws) units-complete in
         omega (arith, split m (sumOf ws) ws)
+
+    -- fewer units are left than there are weights
+    pub few-left : 1 ≤ length ws → unitsLeft m ws < length ws
+    unfolding remainders
+    few-left places =
+        lt-of-mul-lt-mul-right (sumOf ws) (omega (arith, remainders-sum, small m (sumOf ws) some ws))

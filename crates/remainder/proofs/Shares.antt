@@ -19,7 +19,7 @@ unfolding sharesOf
 length-is m ws = shares-length (unitsLeft m ws) (record { shares = roundedDown m ws; unserved = remainders m ws }) ∙ rounded-length m ws
 
 -- a sum above 0 has a place
-places : (ws : List ℕ) → 1 ≤ sumOf ws → 1 ≤ length ws
+pub places : (ws : List ℕ) → 1 ≤ sumOf ws → 1 ≤ length ws
 unfolding sumOf
 places [] some = absurd (omega arith)
 places (w ∷ ws) some = omega arith

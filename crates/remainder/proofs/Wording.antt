@@ -24,7 +24,7 @@ module _ (m : ℕ) (ws : List ℕ) where
         each = λ i l. down-or-more m ws some i;
         left = sum-is m ws some ∙ sym (units-complete m ws some);
         largest = λ i j k l more same. ⊎-elim (λ less. omega arith) (λ tie. omega arith) (largest-first m ws some i j l more same);
-        lower = λ i j k l more same tie. ⊎-elim (λ less. absurd (omega arith)) (λ both. both .1) (largest-first m ws some i j l more same);
+        lower = λ i j k l more same tie. ⊎-elim (λ less. absurd (omega arith)) (λ both. omega arith) (largest-first m ws some i j l more same);
       }
 
   -- the wording leaves one list

@@ -13,13 +13,13 @@ use Rattle.whole.specs.Whole.{negative, magnitudeOf, signedOf}
 unfoldable pub roundedDown : ℕ → List ℕ → List ℕ
 roundedDown m ws = map (λ w. m * w / sumOf ws) ws
 
--- the "remainders of m x weight by W"
-unfoldable pub remainders : ℕ → List ℕ → List ℕ
-remainders m ws = map (λ w. m * w % sumOf ws) ws
-
 -- "the units left"
 unfoldable pub unitsLeft : ℕ → List ℕ → ℕ
 unitsLeft m ws = m - sumOf (roundedDown m ws)
+
+-- the "remainders of m x weight by W"
+unfoldable pub remainders : ℕ → List ℕ → List ℕ
+remainders m ws = map (λ w. m * w % sumOf ws) ws
 
 -- the largest of the remainders at the first n places, "ties to the lower place"
 unfoldable pub largest : List ℕ → ℕ → ℕ
