@@ -5,9 +5,9 @@
 #define SIZE(type, bytes) _Static_assert(sizeof(type) == (bytes), #type)
 #define AT(type, field, place) _Static_assert(offsetof(type, field) == (place), #type "." #field)
 
-SIZE(mkb_amount, 16); AT(mkb_amount, currency, 0); AT(mkb_amount, scale, 1); AT(mkb_amount, coefficient, 8);
-SIZE(mkb_date, 4); AT(mkb_date, year, 0); AT(mkb_date, month, 2); AT(mkb_date, day, 3);
-SIZE(mkb_book, 80); AT(mkb_book, currency, 0); AT(mkb_book, count, 1); AT(mkb_book, weights, 4); AT(mkb_book, net, 72);
+SIZE(mkb_amount, 16); AT(mkb_amount, currency, 0); AT(mkb_amount, scale, 4); AT(mkb_amount, coefficient, 8);
+SIZE(mkb_date, 12); AT(mkb_date, year, 0); AT(mkb_date, month, 4); AT(mkb_date, day, 8);
+SIZE(mkb_book, 80); AT(mkb_book, currency, 0); AT(mkb_book, count, 4); AT(mkb_book, weights, 8); AT(mkb_book, net, 72);
 SIZE(mkb_line, 16); AT(mkb_line, code, 0); AT(mkb_line, places, 3); AT(mkb_line, digits, 4); AT(mkb_line, figures, 8);
 SIZE(mkb_whole, 16); AT(mkb_whole, refusal, 0); AT(mkb_whole, blamed, 1); AT(mkb_whole, value, 8);
 SIZE(mkb_amount_answer, 24); AT(mkb_amount_answer, blamed, 1); AT(mkb_amount_answer, amount, 8);

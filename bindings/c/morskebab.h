@@ -4,9 +4,12 @@
  * else writes during the call, and two lists lent to one call don't overlap. A struct's fields may hold any values at all, and so may every
  * number. Every call returns; none keeps a pointer, allocates, or keeps anything between calls, so calls from several threads are free.
  *
+ * A number outside a list is taken as an int64_t, or an int32_t in a struct, so that an `int` arrives as it is; one that is negative or past
+ * its limit is refused with its own number and never taken for another: mkb_convert(a, 260) is refusal 4.
+ *
  * Each answer begins with `refusal`, which is 0 or the number of document 01's table, and `blamed`, which is 1 or 2 for the first or the
- * second date with refusal 7 and else 0. Where a call is refused, every field behind them is 0, except that a refused posting or refund
- * hands the given book back as it was.
+ * second date with refusal 7 and else 0. Where a call is refused, every field behind them is 0, except that a refused posting, refund or run
+ * hands the given book back, field for field. A refusal leaves every place of a lent list as it stood.
  */
 #ifndef MORSKEBAB_H
 #define MORSKEBAB_H
@@ -17,6 +20,9 @@
 #ifdef __cplusplus
 extern "C" {
 #endif
+
+/* 10,000 x major + 100 x minor + patch of this header; mkb_version() is that of the library which is linked */
+#define MKB_VERSION UINT32_C(10000)
 
 /* Document 01's table: a number is given exactly when its row holds for something that the call takes or makes and no smaller row does. */
 enum mkb_refusal {
@@ -52,18 +58,17 @@ enum mkb_kind { MKB_POSTING, MKB_REFUNDING };
 
 /* its worth is coefficient / 10^scale */
 typedef struct {
-    uint8_t currency, scale;
+    int32_t currency, scale;
     int64_t coefficient;
 } mkb_amount;
 
 typedef struct {
-    uint16_t year;
-    uint8_t month, day;
+    int32_t year, month, day;
 } mkb_date;
 
 /* a count of 1 to 16, as many weights with a sum of 1 to 10,000 and noughts behind them, and a net total of 0 to L */
 typedef struct {
-    uint8_t currency, count;
+    int32_t currency, count;
     uint32_t weights[MKB_PARTNERS];
     int64_t net;
 } mkb_book;
@@ -121,12 +126,14 @@ typedef struct {
     uint64_t served;
 } mkb_ran;
 
+/* the version of the library */
+uint32_t mkb_version(void);
 
 /* n / d rounded by the mode: refusals 1, 3, 6 */
-mkb_whole mkb_round(uint8_t mode, int64_t n, uint64_t d);
+mkb_whole mkb_round(int64_t mode, int64_t n, int64_t d);
 
-/* the table's line of a currency number; all 0 for a number over 20 */
-mkb_line mkb_currency(uint8_t currency);
+/* the table's line of a currency number; all 0 for any number but 0 to 20 */
+mkb_line mkb_currency(int64_t currency);
 
 /* exact, at the greater of the two scales: refusals 2, 3, 4, 5, 13 */
 mkb_amount_answer mkb_sum(mkb_amount a, mkb_amount b);
@@ -135,28 +142,28 @@ mkb_order_answer mkb_order(mkb_amount a, mkb_amount b);
 /* the opposite, exact: refusals 2, 3, 4 */
 mkb_amount_answer mkb_negate(mkb_amount a);
 /* exact to a greater scale, rounded by the mode to a smaller one: refusals 1, 2, 3, 4, 13 */
-mkb_amount_answer mkb_rescale(mkb_amount a, uint8_t scale, uint8_t mode);
+mkb_amount_answer mkb_rescale(mkb_amount a, int64_t scale, int64_t mode);
 
 /* the amount in the currency `to`, by Council Regulation (EC) No 1103/97, articles 4 and 5: refusals 2, 3, 4, 13 */
-mkb_amount_answer mkb_convert(mkb_amount a, uint8_t to);
+mkb_amount_answer mkb_convert(mkb_amount a, int64_t to);
 
 /* whether the Gregorian calendar has the date, from 1900 to 2199 */
 bool mkb_date_exists(mkb_date date);
 /* the days from the start to the end by the basis: refusals 6, 7, 8 */
-mkb_days mkb_day_count(uint8_t basis, mkb_date start, mkb_date end);
+mkb_days mkb_day_count(int64_t basis, mkb_date start, mkb_date end);
 /* principal x rate x days / (10,000 x year), rounded once at the principal's scale: refusals 1, 2, 3, 4, 6, 7, 8, 13 */
-mkb_amount_answer mkb_interest(mkb_amount principal, uint32_t rate, uint8_t basis, mkb_date start, mkb_date end, uint8_t mode);
+mkb_amount_answer mkb_interest(mkb_amount principal, int64_t rate, int64_t basis, mkb_date start, mkb_date end, int64_t mode);
 
 /* tax = net x rate / 1,000,000 rounded by the mode, gross = net + tax: refusals 1, 2, 3, 4, 6, 13 */
-mkb_split mkb_tax_from_net(mkb_amount net, uint32_t rate, uint8_t mode);
+mkb_split mkb_tax_from_net(mkb_amount net, int64_t rate, int64_t mode);
 /* tax = gross x rate / (1,000,000 + rate) rounded by the mode, net = gross - tax: refusals 1, 2, 3, 4, 6 */
-mkb_split mkb_tax_from_gross(mkb_amount gross, uint32_t rate, uint8_t mode);
+mkb_split mkb_tax_from_gross(mkb_amount gross, int64_t rate, int64_t mode);
 
 /* shares by largest remainder into the first `count` places of out, the others untouched; a refusal writes nothing; 0, or 2, 3, 4, 9, 11 */
 uint8_t mkb_share(mkb_amount a, const uint32_t *weights, size_t count, int64_t *out, size_t room);
 
 /* a book with these weights and a net total of 0: refusals 4, 9 */
-mkb_opened mkb_open(uint8_t currency, const uint32_t *weights, size_t count);
+mkb_opened mkb_open(int64_t currency, const uint32_t *weights, size_t count);
 /* the next book and what each partner is paid: refusals 2, 3, 4, 5, 9, 10, 13 */
 mkb_moved mkb_post(mkb_book book, mkb_amount a);
 /* the next book and what is taken back from each partner: refusals 2, 3, 4, 5, 9, 10, 12 */
@@ -164,8 +171,9 @@ mkb_moved mkb_refund(mkb_book book, mkb_amount a);
 /* each partner's running total at the book's net total: refusals 3, 4, 9, 10 */
 mkb_totals mkb_running_totals(mkb_book book);
 /* the movements in turn, each as mkb_post or mkb_refund of its coefficient in the book's currency at its own digits: call j's payouts at the
- * sixteen places from 16 x j on, its refusal number (0: accepted) at place j; the last book and the calls served. Refusal 11, and nothing is
- * written, where the lists' lengths differ or there is too little room */
+ * sixteen places from 16 x j on, its refusal number (0: accepted) at place j; the last book and the calls served. Where the run itself is
+ * refused: the given book, 0 calls served, and every lent place as it stood; refusal 11 where the lists' lengths differ or there is too
+ * little room */
 mkb_ran mkb_run(mkb_book book, const uint8_t *kinds, size_t calls, const int64_t *coefficients, size_t count, uint64_t *payouts, size_t payouts_room,
                 uint8_t *numbers, size_t numbers_room);
 

@@ -1,7 +1,7 @@
 """Morskebab for Python: money arithmetic whose every function is proved to keep its promise.
 
-An accepted call returns its value; a refused one raises `Refused` with document 01's number and the date that it blames. A number that
-its C type can't hold is never passed on: it raises OverflowError.
+An accepted call returns its value; a refused one raises `Refused` with document 01's number and the date that it blames. A value that is no
+whole number raises TypeError, and one that its C type can't hold OverflowError; both name the field.
 
     >>> from morskebab import Amount, Book, DEM, EUR
     >>> Amount(DEM, 2, 10000).convert(EUR)
@@ -10,20 +10,31 @@ its C type can't hold is never passed on: it raises OverflowError.
     >>> book, payouts = book.post(Amount(EUR, 2, 7))
     >>> payouts
     (4, 2, 1)
+    >>> print(sum([Amount(EUR, 2, 150), Amount(EUR, 1, 25)]))
+    4.00 EUR
+    >>> Amount.from_decimal(EUR, Decimal("-12.50"))
+    Amount(currency=0, scale=2, coefficient=-1250)
 """
-import operator
-from ctypes import c_int64, c_uint8, c_uint16, c_uint32, c_uint64
-from dataclasses import dataclass
-from typing import NamedTuple
+from __future__ import annotations
 
-from morskebab_c import PARTNERS, CAmount, CBook, CDate, load
+import operator
+from collections.abc import Mapping, Sequence
+from ctypes import Array, c_int32, c_int64, c_uint8, c_uint32, c_uint64
+from dataclasses import dataclass
+from decimal import Decimal
+from typing import Any, Callable, NamedTuple
+
+from morskebab_c import PARTNERS, VERSION, CAmount, CBook, CDate, load
+
+__version__ = f"{VERSION // 10000}.{VERSION // 100 % 100}.{VERSION % 100}"
 
 (EUR, BEF, DEM, ESP, FRF, IEP, ITL, LUF, NLG, ATS, PTE, FIM, GRD, SIT, CYP, MTL, SKK, EEK, LVL, LTL, HRK) = range(21)
 UP, DOWN, CEILING, FLOOR, HALF_UP, HALF_DOWN, HALF_EVEN = range(7)
 ACTUAL_360, ACTUAL_365, THIRTY_360 = range(3)
 
-# the largest magnitude of a coefficient
+# the largest magnitude of a coefficient, and the largest scale
 L = 99_999_999_999
+SCALE = 6
 
 _library = load()
 
@@ -47,36 +58,52 @@ REASONS = {
 class Refused(Exception):
     """A call was refused: `number` is document 01's, `blamed` 1 or 2 for the first or second date with number 7, else 0."""
 
-    def __init__(self, number, blamed):
-        super().__init__(f"refusal {number}: {REASONS[number]}")
+    def __init__(self, number: int, blamed: int = 0) -> None:
+        # the arguments as they are, so that it can be pickled and raised again in another process
+        super().__init__(number, blamed)
         self.number = number
         self.blamed = blamed
 
-
-def _fit(kind, value):
-    """The value as a C type holds it; OverflowError where it can't."""
-    value = operator.index(value)
-    held = kind(value)
-    if held.value != value:
-        raise OverflowError(f"{value} is no {kind.__name__[2:]}")
-    return held
+    def __str__(self) -> str:
+        date = {1: " (the first date)", 2: " (the second date)"}.get(self.blamed, "")
+        return f"refusal {self.number}: {REASONS[self.number]}{date}"
 
 
-def _list(kind, values):
-    values = [_fit(kind, v).value for v in values]
+def _whole(kind: Any, field: str, value: Any) -> int:
+    """The value as a whole number that the C type holds; TypeError or OverflowError with the field's name."""
+    try:
+        n = operator.index(value)
+    except TypeError:
+        raise TypeError(f"{field} must be a whole number, not {type(value).__name__}") from None
+    if kind(n).value != n:
+        raise OverflowError(f"{field}: {n} is no {kind.__name__[2:]}")
+    return n
+
+
+def _list(kind: Any, field: str, values: Any) -> tuple[Array, int]:
+    """The values as a C list, and their number; TypeError where they have no order."""
+    if isinstance(values, (Mapping, str, bytes, bytearray)) or not hasattr(values, "__getitem__"):
+        raise TypeError(f"{field} must be a list or another sequence of whole numbers, not {type(values).__name__}")
+    held = [_whole(kind, f"{field}[{place}]", value) for place, value in enumerate(values)]
     # one place more, so that an empty list has an address too
-    return (kind * (len(values) + 1))(*values), len(values)
+    return (kind * (len(held) + 1))(*held), len(held)
 
 
-def _accepted(answer):
+def _is_a(kind: type, field: str, value: Any) -> Any:
+    if not isinstance(value, kind):
+        raise TypeError(f"{field} must be {kind.__name__}, not {type(value).__name__}")
+    return value
+
+
+def _accepted(answer: Any) -> Any:
     if answer.refusal:
         raise Refused(answer.refusal, answer.blamed)
     return answer
 
 
-def plain_quotient(mode, n, d):
+def plain_quotient(mode: int, n: int, d: int) -> int:
     """n / d rounded by the mode: refusals 1, 3, 6."""
-    return _accepted(_library.mkb_round(_fit(c_uint8, mode), _fit(c_int64, n), _fit(c_uint64, d))).value
+    return _accepted(_library.mkb_round(_whole(c_int64, "mode", mode), _whole(c_int64, "n", n), _whole(c_int64, "d", d))).value
 
 
 class Line(NamedTuple):
@@ -88,9 +115,9 @@ class Line(NamedTuple):
     digits: int
 
 
-def currency_line(currency):
-    """The table's line of a currency number; None for a number over 20."""
-    line = _library.mkb_currency(_fit(c_uint8, currency))
+def currency_line(currency: int) -> Line | None:
+    """The table's line of a currency number; None for any number but 0 to 20."""
+    line = _library.mkb_currency(_whole(c_int64, "currency", currency))
     return Line(bytes(line.code).decode(), line.figures, line.places, line.digits) if line.figures else None
 
 
@@ -100,76 +127,141 @@ class Date:
     month: int
     day: int
 
-    def _c(self):
-        return CDate(_fit(c_uint16, self.year), _fit(c_uint8, self.month), _fit(c_uint8, self.day))
+    def __post_init__(self) -> None:
+        for field in ("year", "month", "day"):
+            object.__setattr__(self, field, _whole(c_int32, field, getattr(self, field)))
 
-    def exists(self):
+    def _c(self) -> CDate:
+        return CDate(self.year, self.month, self.day)
+
+    def exists(self) -> bool:
         """Whether the Gregorian calendar has the date, from 1900 to 2199."""
         return _library.mkb_date_exists(self._c())
 
 
-def day_count(basis, start, end):
+def day_count(basis: int, start: Date, end: Date) -> int:
     """The days from the start to the end by the basis: refusals 6, 7, 8."""
-    return _accepted(_library.mkb_day_count(_fit(c_uint8, basis), start._c(), end._c())).days
+    start, end = _is_a(Date, "start", start), _is_a(Date, "end", end)
+    return _accepted(_library.mkb_day_count(_whole(c_int64, "basis", basis), start._c(), end._c())).days
 
 
-@dataclass(frozen=True)
+@dataclass(frozen=True, eq=False)
 class Amount:
-    """Its worth is coefficient / 10^scale. Two amounts are `==` where their fields are; `compare` goes by worth."""
+    """Its worth is coefficient / 10^scale. `<` and its sisters go by worth and refuse what `compare` refuses; `==` goes by currency and worth,
+    so that 1.5 and 1.50 are equal, and refuses nothing."""
 
     currency: int
     scale: int
     coefficient: int
 
-    def _c(self):
-        return CAmount(_fit(c_uint8, self.currency), _fit(c_uint8, self.scale), _fit(c_int64, self.coefficient))
+    def __post_init__(self) -> None:
+        for field, kind in (("currency", c_int32), ("scale", c_int32), ("coefficient", c_int64)):
+            object.__setattr__(self, field, _whole(kind, field, getattr(self, field)))
+
+    def _c(self) -> CAmount:
+        return CAmount(self.currency, self.scale, self.coefficient)
 
     @classmethod
-    def _of(cls, c):
+    def _of(cls, c: Any) -> Amount:
         return cls(c.currency, c.scale, c.coefficient)
 
-    def __add__(self, other):
+    @classmethod
+    def from_decimal(cls, currency: int, value: Decimal) -> Amount:
+        """The exact amount: its scale is the number of the decimal's digits after the point."""
+        sign, digits, exponent = _is_a(Decimal, "value", value).as_tuple()
+        if not isinstance(exponent, int):
+            raise ValueError(f"value: {value} is no number")
+        scale = max(-exponent, 0)
+        return cls(currency, scale, int(value.scaleb(scale)))
+
+    def as_decimal(self) -> Decimal:
+        """The worth, with as many digits after the point as the scale says."""
+        return Decimal(self.coefficient).scaleb(-self.scale)
+
+    def __str__(self) -> str:
+        line = currency_line(self.currency)
+        return f"{self.as_decimal():f} {line.code if line else f'currency {self.currency}'}"
+
+    def _key(self) -> tuple:
+        """Equal for amounts of one currency and one worth, at any scale that an amount has."""
+        if 0 <= self.scale <= SCALE:
+            return self.currency, self.coefficient * 10 ** (SCALE - self.scale)
+        return self.currency, self.scale, self.coefficient
+
+    def __eq__(self, other: object) -> bool:
+        return self._key() == other._key() if isinstance(other, Amount) else NotImplemented
+
+    def __hash__(self) -> int:
+        return hash(self._key())
+
+    def compare(self, other: Amount) -> int:
+        """-1, 0 or 1 where this is worth less than the other, as much or more: refusals 2, 3, 4, 5."""
+        return _accepted(_library.mkb_order(self._c(), _is_a(Amount, "other", other)._c())).order
+
+    def __lt__(self, other: Amount) -> bool:
+        return self.compare(other) < 0 if isinstance(other, Amount) else NotImplemented
+
+    def __le__(self, other: Amount) -> bool:
+        return self.compare(other) <= 0 if isinstance(other, Amount) else NotImplemented
+
+    def __gt__(self, other: Amount) -> bool:
+        return self.compare(other) > 0 if isinstance(other, Amount) else NotImplemented
+
+    def __ge__(self, other: Amount) -> bool:
+        return self.compare(other) >= 0 if isinstance(other, Amount) else NotImplemented
+
+    def __add__(self, other: Amount) -> Amount:
         """Exact, at the greater of the two scales: refusals 2, 3, 4, 5, 13."""
         if not isinstance(other, Amount):
             return NotImplemented
         return Amount._of(_accepted(_library.mkb_sum(self._c(), other._c())).amount)
 
-    def __neg__(self):
+    def __radd__(self, other: int) -> Amount:
+        """The 0 that `sum` starts with."""
+        return self if isinstance(other, int) and other == 0 else NotImplemented
+
+    def __neg__(self) -> Amount:
         """Exact: refusals 2, 3, 4."""
         return Amount._of(_accepted(_library.mkb_negate(self._c())).amount)
 
-    def compare(self, other):
-        """-1, 0 or 1 where this is worth less than the other, as much or more: refusals 2, 3, 4, 5."""
-        return _accepted(_library.mkb_order(self._c(), other._c())).order
+    def __sub__(self, other: Amount) -> Amount:
+        """The sum with the other's opposite: refusals 2, 3, 4, 5, 13."""
+        if not isinstance(other, Amount):
+            return NotImplemented
+        # a coefficient over L is refused as it stands, so that its opposite, which an int64 may not hold, is not asked for
+        opposite = -other.coefficient if abs(other.coefficient) <= L else other.coefficient
+        return self + Amount(other.currency, other.scale, opposite)
 
-    def rescale(self, scale, mode):
+    def rescale(self, scale: int, mode: int) -> Amount:
         """Exact to a greater scale, rounded by the mode to a smaller one: refusals 1, 2, 3, 4, 13."""
-        return Amount._of(_accepted(_library.mkb_rescale(self._c(), _fit(c_uint8, scale), _fit(c_uint8, mode))).amount)
-
-    def convert(self, to):
-        """In the currency `to`, by Council Regulation (EC) No 1103/97, articles 4 and 5: refusals 2, 3, 4, 13."""
-        return Amount._of(_accepted(_library.mkb_convert(self._c(), _fit(c_uint8, to))).amount)
-
-    def interest(self, rate, basis, start, end, mode):
-        """This x rate x days / (10,000 x year), rounded once: refusals 1, 2, 3, 4, 6, 7, 8, 13."""
-        answer = _library.mkb_interest(self._c(), _fit(c_uint32, rate), _fit(c_uint8, basis), start._c(), end._c(), _fit(c_uint8, mode))
+        answer = _library.mkb_rescale(self._c(), _whole(c_int64, "scale", scale), _whole(c_int64, "mode", mode))
         return Amount._of(_accepted(answer).amount)
 
-    def tax_as_net(self, rate, mode):
+    def convert(self, to: int) -> Amount:
+        """In the currency `to`, by Council Regulation (EC) No 1103/97, articles 4 and 5: refusals 2, 3, 4, 13."""
+        return Amount._of(_accepted(_library.mkb_convert(self._c(), _whole(c_int64, "to", to))).amount)
+
+    def interest(self, rate: int, basis: int, start: Date, end: Date, mode: int) -> Amount:
+        """This x rate x days / (10,000 x year), rounded once: refusals 1, 2, 3, 4, 6, 7, 8, 13."""
+        start, end = _is_a(Date, "start", start), _is_a(Date, "end", end)
+        numbers = _whole(c_int64, "rate", rate), _whole(c_int64, "basis", basis)
+        return Amount._of(_accepted(_library.mkb_interest(self._c(), *numbers, start._c(), end._c(), _whole(c_int64, "mode", mode))).amount)
+
+    def tax_as_net(self, rate: int, mode: int) -> Split:
         """Tax = net x rate / 1,000,000 rounded by the mode, gross = net + tax: refusals 1, 2, 3, 4, 6, 13."""
-        return Split._of(_accepted(_library.mkb_tax_from_net(self._c(), _fit(c_uint32, rate), _fit(c_uint8, mode))))
+        return Split._of(_accepted(_library.mkb_tax_from_net(self._c(), _whole(c_int64, "rate", rate), _whole(c_int64, "mode", mode))))
 
-    def tax_as_gross(self, rate, mode):
+    def tax_as_gross(self, rate: int, mode: int) -> Split:
         """Tax = gross x rate / (1,000,000 + rate) rounded by the mode, net = gross - tax: refusals 1, 2, 3, 4, 6."""
-        return Split._of(_accepted(_library.mkb_tax_from_gross(self._c(), _fit(c_uint32, rate), _fit(c_uint8, mode))))
+        return Split._of(_accepted(_library.mkb_tax_from_gross(self._c(), _whole(c_int64, "rate", rate), _whole(c_int64, "mode", mode))))
 
-    def share(self, weights):
+    def share(self, weights: Sequence[int]) -> tuple[int, ...]:
         """The shares' coefficients by largest remainder, one for each weight: refusals 2, 3, 4, 9."""
-        lent, count = _list(c_uint32, weights)
+        lent, count = _list(c_uint32, "weights", weights)
         out = (c_int64 * (count + 1))()
         number = _library.mkb_share(self._c(), lent, count, out, count)
         if number:
-            raise Refused(number, 0)
+            raise Refused(number)
         return tuple(out[:count])
 
 
@@ -181,23 +273,23 @@ class Split(NamedTuple):
     gross: Amount
 
     @classmethod
-    def _of(cls, c):
+    def _of(cls, c: Any) -> Split:
         return cls(Amount._of(c.net), Amount._of(c.tax), Amount._of(c.gross))
 
 
 class Moved(NamedTuple):
     """The next book, and what each partner is paid, or what a refund takes back from each."""
 
-    book: "Book"
-    payouts: tuple
+    book: Book
+    payouts: tuple[int, ...]
 
 
 class Ran(NamedTuple):
     """The book after a run of movements; each call's payouts, zeros where it is refused; and its refusal number, 0 where it is accepted."""
 
-    book: "Book"
-    payouts: tuple
-    numbers: tuple
+    book: Book
+    payouts: tuple[tuple[int, ...], ...]
+    numbers: tuple[int, ...]
 
 
 @dataclass(frozen=True)
@@ -205,48 +297,52 @@ class Book:
     """A share book: a currency, the weights of its partners and its net total. Each call answers with the next book."""
 
     currency: int
-    weights: tuple
+    weights: tuple[int, ...]
     net: int
 
-    def _c(self):
-        weights, count = _list(c_uint32, self.weights)
+    def __post_init__(self) -> None:
+        lent, count = _list(c_uint32, "weights", self.weights)
         if count > PARTNERS:
-            raise OverflowError(f"a book has {PARTNERS} places")
-        places = (c_uint32 * PARTNERS)(*weights[:count])
-        return CBook(_fit(c_uint8, self.currency), count, places, _fit(c_int64, self.net))
+            raise OverflowError(f"weights: {count} of them, and a book has {PARTNERS} places")
+        object.__setattr__(self, "currency", _whole(c_int32, "currency", self.currency))
+        object.__setattr__(self, "weights", tuple(lent[:count]))
+        object.__setattr__(self, "net", _whole(c_int64, "net", self.net))
+
+    def _c(self) -> CBook:
+        return CBook(self.currency, len(self.weights), (c_uint32 * PARTNERS)(*self.weights), self.net)
 
     @classmethod
-    def _of(cls, c):
+    def _of(cls, c: Any) -> Book:
         return cls(c.currency, tuple(c.weights[: c.count]), c.net)
 
     @classmethod
-    def open(cls, currency, weights):
+    def open(cls, currency: int, weights: Sequence[int]) -> Book:
         """A book with these weights and a net total of 0: refusals 4, 9."""
-        lent, count = _list(c_uint32, weights)
-        return cls._of(_accepted(_library.mkb_open(_fit(c_uint8, currency), lent, count)).book)
+        lent, count = _list(c_uint32, "weights", weights)
+        return cls._of(_accepted(_library.mkb_open(_whole(c_int64, "currency", currency), lent, count)).book)
 
-    def _moved(self, call, amount):
-        answer = _accepted(call(self._c(), amount._c()))
+    def _moved(self, call: Callable[[CBook, CAmount], Any], amount: Amount) -> Moved:
+        answer = _accepted(call(self._c(), _is_a(Amount, "amount", amount)._c()))
         return Moved(Book._of(answer.book), tuple(answer.payouts[: answer.book.count]))
 
-    def post(self, amount):
+    def post(self, amount: Amount) -> Moved:
         """Pays each partner the difference of its running totals at N + A and N: refusals 2, 3, 4, 5, 9, 10, 13."""
         return self._moved(_library.mkb_post, amount)
 
-    def refund(self, amount):
+    def refund(self, amount: Amount) -> Moved:
         """Takes back the difference of the running totals at N and N - A: refusals 2, 3, 4, 5, 9, 10, 12."""
         return self._moved(_library.mkb_refund, amount)
 
-    def running_totals(self):
+    def running_totals(self) -> tuple[int, ...]:
         """Each partner's running total at the net total: refusals 3, 4, 9, 10."""
         return tuple(_accepted(_library.mkb_running_totals(self._c())).totals[: len(self.weights)])
 
-    def run(self, kinds, coefficients):
+    def run(self, kinds: Sequence[int], coefficients: Sequence[int]) -> Ran:
         """Posts (kind 0) or refunds (any other) each coefficient in turn, as `post` and `refund` would: refusal 11 for lists of unequal length."""
-        kinds, calls = _list(c_uint8, kinds)
-        coefficients, count = _list(c_int64, coefficients)
+        lent, calls = _list(c_uint8, "kinds", kinds)
+        given, count = _list(c_int64, "coefficients", coefficients)
         payouts, numbers = (c_uint64 * (PARTNERS * calls + 1))(), (c_uint8 * (calls + 1))()
-        answer = _library.mkb_run(self._c(), kinds, calls, coefficients, count, payouts, PARTNERS * calls, numbers, calls)
+        answer = _library.mkb_run(self._c(), lent, calls, given, count, payouts, PARTNERS * calls, numbers, calls)
         last = Book._of(_accepted(answer).book)
         paid = (payouts[PARTNERS * call : PARTNERS * call + len(self.weights)] for call in range(calls))
         return Ran(last, tuple(tuple(places) for places in paid), tuple(numbers[:calls]))

@@ -2,28 +2,30 @@
 import ctypes
 import os
 import pathlib
-from ctypes import POINTER, Structure, c_bool, c_int8, c_int64, c_size_t, c_uint8, c_uint16, c_uint32, c_uint64
+from ctypes import POINTER, Structure, c_bool, c_int8, c_int32, c_int64, c_size_t, c_uint8, c_uint32, c_uint64
 
 PARTNERS = 16
+# MKB_VERSION: 10,000 x major + 100 x minor + patch
+VERSION = 10000
 
 
 class CAmount(Structure):
-    _fields_ = [("currency", c_uint8), ("scale", c_uint8), ("coefficient", c_int64)]
+    _fields_ = [("currency", c_int32), ("scale", c_int32), ("coefficient", c_int64)]
 
 
 class CDate(Structure):
-    _fields_ = [("year", c_uint16), ("month", c_uint8), ("day", c_uint8)]
+    _fields_ = [("year", c_int32), ("month", c_int32), ("day", c_int32)]
 
 
 class CBook(Structure):
-    _fields_ = [("currency", c_uint8), ("count", c_uint8), ("weights", c_uint32 * PARTNERS), ("net", c_int64)]
+    _fields_ = [("currency", c_int32), ("count", c_int32), ("weights", c_uint32 * PARTNERS), ("net", c_int64)]
 
 
 class CLine(Structure):
     _fields_ = [("code", c_uint8 * 3), ("places", c_uint8), ("digits", c_uint8), ("figures", c_uint64)]
 
 
-def _answer(name, *fields):
+def _answer(name: str, *fields: tuple) -> type:
     """An answer: the refusal, the date blamed, and the values."""
     return type(name, (Structure,), {"_fields_": [("refusal", c_uint8), ("blamed", c_uint8), *fields]})
 
@@ -39,28 +41,28 @@ CTotals = _answer("CTotals", ("totals", c_uint64 * PARTNERS))
 CRan = _answer("CRan", ("book", CBook), ("served", c_uint64))
 
 
-
-def _lent(kind):
+def _lent(kind: type) -> tuple:
     """A list that is lent: where it starts, and its length."""
     return POINTER(kind), c_size_t
 
 
 # each function's answer and parameters, as in morskebab.h
 FUNCTIONS = {
-    "mkb_round": (CWhole, c_uint8, c_int64, c_uint64),
-    "mkb_currency": (CLine, c_uint8),
+    "mkb_version": (c_uint32,),
+    "mkb_round": (CWhole, c_int64, c_int64, c_int64),
+    "mkb_currency": (CLine, c_int64),
     "mkb_sum": (CAmountAnswer, CAmount, CAmount),
     "mkb_order": (COrder, CAmount, CAmount),
     "mkb_negate": (CAmountAnswer, CAmount),
-    "mkb_rescale": (CAmountAnswer, CAmount, c_uint8, c_uint8),
-    "mkb_convert": (CAmountAnswer, CAmount, c_uint8),
+    "mkb_rescale": (CAmountAnswer, CAmount, c_int64, c_int64),
+    "mkb_convert": (CAmountAnswer, CAmount, c_int64),
     "mkb_date_exists": (c_bool, CDate),
-    "mkb_day_count": (CDays, c_uint8, CDate, CDate),
-    "mkb_interest": (CAmountAnswer, CAmount, c_uint32, c_uint8, CDate, CDate, c_uint8),
-    "mkb_tax_from_net": (CSplit, CAmount, c_uint32, c_uint8),
-    "mkb_tax_from_gross": (CSplit, CAmount, c_uint32, c_uint8),
-    "mkb_share": (c_uint8, CAmount, POINTER(c_uint32), c_size_t, POINTER(c_int64), c_size_t),
-    "mkb_open": (COpened, c_uint8, POINTER(c_uint32), c_size_t),
+    "mkb_day_count": (CDays, c_int64, CDate, CDate),
+    "mkb_interest": (CAmountAnswer, CAmount, c_int64, c_int64, CDate, CDate, c_int64),
+    "mkb_tax_from_net": (CSplit, CAmount, c_int64, c_int64),
+    "mkb_tax_from_gross": (CSplit, CAmount, c_int64, c_int64),
+    "mkb_share": (c_uint8, CAmount, *_lent(c_uint32), *_lent(c_int64)),
+    "mkb_open": (COpened, c_int64, *_lent(c_uint32)),
     "mkb_post": (CMoved, CBook, CAmount),
     "mkb_refund": (CMoved, CBook, CAmount),
     "mkb_running_totals": (CTotals, CBook),
@@ -68,12 +70,15 @@ FUNCTIONS = {
 }
 
 
-def load():
-    """The library of MORSKEBAB_LIBRARY, or the one that `check` builds in the repository's target folder."""
+def load() -> ctypes.CDLL:
+    """The library of MORSKEBAB_LIBRARY, or the one that `check` builds in the repository's target folder. ImportError where it is of another
+    version than this module."""
     built = pathlib.Path(__file__).resolve().parents[2] / "target" / "bindings" / "libmorskebab.so"
     library = ctypes.CDLL(os.environ.get("MORSKEBAB_LIBRARY", str(built)))
     for name, (answer, *parameters) in FUNCTIONS.items():
         function = getattr(library, name)
         function.restype = answer
         function.argtypes = parameters
+    if library.mkb_version() != VERSION:
+        raise ImportError(f"the library is of version {library.mkb_version()}, and this module of version {VERSION}")
     return library

@@ -1,3 +1,1 @@
-pub mod Outcomes
-pub mod OneAnswer
-pub mod Accepted
+pub mod Unique

@@ -1,3 +1,1 @@
-pub mod Given
-pub mod Answers
-pub mod Books
+pub mod Version

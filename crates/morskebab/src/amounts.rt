@@ -1,17 +1,19 @@
 // The plain quotient, the table of currencies, and amounts.
-use crate::MkbAmount;
-use crate::MkbAmountAnswer;
-use crate::MkbLine;
-use crate::MkbOrderAnswer;
-use crate::MkbWhole;
-use crate::answers::amounts::flat_answer;
-use crate::answers::lines::flat_line;
-use crate::answers::orders::flat_order;
-use crate::answers::wholes::flat_whole;
-use crate::given::given_amount;
-use currency::Currency;
 use currency::line_of;
 use euro::convert;
+use flat::MkbAmount;
+use flat::MkbAmountAnswer;
+use flat::MkbLine;
+use flat::MkbOrderAnswer;
+use flat::MkbWhole;
+use flat::flat_answer;
+use flat::flat_line;
+use flat::flat_order;
+use flat::flat_whole;
+use flat::given_amount;
+use flat::given_currency;
+use flat::pass_u8;
+use flat::pass_u64;
 use rounding::plain_quotient;
 ghost use mathlib.Core.Path.{_≡_};
 ghost use Rattle.rounding.specs.Plain.{plainSaid};
@@ -19,23 +21,23 @@ ghost use Rattle.currency.specs.Table.{lineOf};
 ghost use Rattle.amount.specs.Sum.{sumSaid, orderSaid, negateSaid};
 ghost use Rattle.amount.specs.Rescaling.{rescaleSaid};
 ghost use Rattle.euro.specs.Conversion.{convertSaid};
-ghost use Rattle.morskebab.specs.Given.{currencyFrom, amountFrom};
-ghost use Rattle.morskebab.specs.Answers.{lineFlat, wholeOf, amountAnswerOf, orderOf};
+ghost use Rattle.flat.specs.Given.{passed8, passed64, currencyFrom, amountFrom};
+ghost use Rattle.flat.specs.Answers.{lineFlat, wholeOf, amountAnswerOf, orderOf};
 
 // n / d rounded by the mode: refusals 1, 3, 6.
 #[no_mangle]
-pub extern "C" fn mkb_round(mode: u8, n: i64, d: u64) -> MkbWhole
-    ensures { λ r. ⌜ r ≡ wholeOf (plainSaid mode n d) ⌝ }
+pub extern "C" fn mkb_round(mode: i64, n: i64, d: i64) -> MkbWhole
+    ensures { λ r. ⌜ r ≡ wholeOf (plainSaid (passed8 mode) n (passed64 d)) ⌝ }
 {
-    flat_whole(plain_quotient(mode, n, d))
+    flat_whole(plain_quotient(pass_u8(mode), n, pass_u64(d)))
 }
 
 // The table's line of a currency number; all 0 for a number over 20.
 #[no_mangle]
-pub extern "C" fn mkb_currency(currency: u8) -> MkbLine
-    ensures { λ r. ⌜ r ≡ lineFlat (lineOf (record { 0 = currency })) ⌝ }
+pub extern "C" fn mkb_currency(currency: i64) -> MkbLine
+    ensures { λ r. ⌜ r ≡ lineFlat (lineOf (currencyFrom currency)) ⌝ }
 {
-    flat_line(line_of(Currency(currency)))
+    flat_line(line_of(given_currency(currency)))
 }
 
 // The exact sum at the greater of the two scales: refusals 2, 3, 4, 5, 13.
@@ -64,16 +66,16 @@ pub extern "C" fn mkb_negate(a: MkbAmount) -> MkbAmountAnswer
 
 // Exact to a greater scale, rounded by the mode to a smaller one: refusals 1, 2, 3, 4, 13.
 #[no_mangle]
-pub extern "C" fn mkb_rescale(a: MkbAmount, scale: u8, mode: u8) -> MkbAmountAnswer
-    ensures { λ r. ⌜ r ≡ amountAnswerOf (rescaleSaid (amountFrom a) scale mode) ⌝ }
+pub extern "C" fn mkb_rescale(a: MkbAmount, scale: i64, mode: i64) -> MkbAmountAnswer
+    ensures { λ r. ⌜ r ≡ amountAnswerOf (rescaleSaid (amountFrom a) (passed8 scale) (passed8 mode)) ⌝ }
 {
-    flat_answer(given_amount(a).rescale(scale, mode))
+    flat_answer(given_amount(a).rescale(pass_u8(scale), pass_u8(mode)))
 }
 
 // The amount in the currency `to`, by Council Regulation (EC) No 1103/97, articles 4 and 5: refusals 2, 3, 4, 13.
 #[no_mangle]
-pub extern "C" fn mkb_convert(a: MkbAmount, to: u8) -> MkbAmountAnswer
+pub extern "C" fn mkb_convert(a: MkbAmount, to: i64) -> MkbAmountAnswer
     ensures { λ r. ⌜ r ≡ amountAnswerOf (convertSaid (amountFrom a) (currencyFrom to)) ⌝ }
 {
-    flat_answer(convert(given_amount(a), Currency(to)))
+    flat_answer(convert(given_amount(a), given_currency(to)))
 }

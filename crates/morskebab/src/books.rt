@@ -1,43 +1,43 @@
 // The share book.
-use crate::MkbAmount;
-use crate::MkbBook;
-use crate::MkbMoved;
-use crate::MkbOpened;
-use crate::MkbTotals;
-use crate::answers::books::flat_moved;
-use crate::answers::books::flat_opened;
-use crate::answers::books::flat_totals;
-use crate::given::given_amount;
-use crate::given::given_book;
 use book::Book;
-use currency::Currency;
+use flat::MkbAmount;
+use flat::MkbBook;
+use flat::MkbMoved;
+use flat::MkbOpened;
+use flat::MkbTotals;
+use flat::flat_moved;
+use flat::flat_opened;
+use flat::flat_totals;
+use flat::given_amount;
+use flat::given_book;
+use flat::given_currency;
 ghost use mathlib.Core.Path.{_≡_};
 ghost use Rattle.book.specs.Moves.{openSaid, postSaid, refundSaid, paidOf, takenOf, totalsSaid};
-ghost use Rattle.morskebab.specs.Given.{currencyFrom, amountFrom, bookFrom};
-ghost use Rattle.morskebab.specs.Books.{openedOf, movedOf, runningOf};
+ghost use Rattle.flat.specs.Given.{currencyFrom, amountFrom, bookFrom};
+ghost use Rattle.flat.specs.Books.{openedOf, movedOf, runningOf};
 
 // A book with these weights, as many partners as there are, and a net total of 0: refusals 4, 9.
 #[no_mangle]
-pub extern "C" fn mkb_open(currency: u8, weights: &[u32]) -> MkbOpened
+pub extern "C" fn mkb_open(currency: i64, weights: &[u32]) -> MkbOpened
     ensures { λ r. ⌜ r ≡ openedOf (openSaid (currencyFrom currency) (now (weights .entry))) ⌝ }
 {
-    flat_opened(Book::open(Currency(currency), weights))
+    flat_opened(Book::open(given_currency(currency), weights))
 }
 
 // The next book and what each partner is paid; refused, the given book and noughts: refusals 2, 3, 4, 5, 9, 10, 13.
 #[no_mangle]
 pub extern "C" fn mkb_post(book: MkbBook, a: MkbAmount) -> MkbMoved
-    ensures { λ r. ⌜ r ≡ movedOf paidOf (bookFrom book) (postSaid (bookFrom book) (amountFrom a)) ⌝ }
+    ensures { λ r. ⌜ r ≡ movedOf paidOf book (postSaid (bookFrom book) (amountFrom a)) ⌝ }
 {
-    flat_moved(given_book(book).post(given_amount(a)))
+    flat_moved(book, given_book(book).post(given_amount(a)))
 }
 
 // The next book and what is taken back from each partner; refused, the given book and noughts: refusals 2, 3, 4, 5, 9, 10, 12.
 #[no_mangle]
 pub extern "C" fn mkb_refund(book: MkbBook, a: MkbAmount) -> MkbMoved
-    ensures { λ r. ⌜ r ≡ movedOf takenOf (bookFrom book) (refundSaid (bookFrom book) (amountFrom a)) ⌝ }
+    ensures { λ r. ⌜ r ≡ movedOf takenOf book (refundSaid (bookFrom book) (amountFrom a)) ⌝ }
 {
-    flat_moved(given_book(book).refund(given_amount(a)))
+    flat_moved(book, given_book(book).refund(given_amount(a)))
 }
 
 // Each partner's running total at the book's net total: refusals 3, 4, 9, 10.

@@ -1,27 +1,29 @@
 // Tax in and out of a price.
-use crate::MkbAmount;
-use crate::MkbSplit;
-use crate::answers::prices::flat_split;
-use crate::given::given_amount;
+use flat::MkbAmount;
+use flat::MkbSplit;
+use flat::flat_split;
+use flat::given_amount;
+use flat::pass_u8;
+use flat::pass_u32;
 use tax::tax_from_gross;
 use tax::tax_from_net;
 ghost use mathlib.Core.Path.{_≡_};
 ghost use Rattle.tax.specs.Tax.{fromNetSaid, fromGrossSaid};
-ghost use Rattle.morskebab.specs.Given.{amountFrom};
-ghost use Rattle.morskebab.specs.Answers.{splitOf};
+ghost use Rattle.flat.specs.Given.{passed8, passed32, amountFrom};
+ghost use Rattle.flat.specs.Answers.{splitOf};
 
 // tax = net x rate / 1,000,000 rounded by the mode, gross = net + tax: refusals 1, 2, 3, 4, 6, 13.
 #[no_mangle]
-pub extern "C" fn mkb_tax_from_net(net: MkbAmount, rate: u32, mode: u8) -> MkbSplit
-    ensures { λ r. ⌜ r ≡ splitOf (fromNetSaid (amountFrom net) rate mode) ⌝ }
+pub extern "C" fn mkb_tax_from_net(net: MkbAmount, rate: i64, mode: i64) -> MkbSplit
+    ensures { λ r. ⌜ r ≡ splitOf (fromNetSaid (amountFrom net) (passed32 rate) (passed8 mode)) ⌝ }
 {
-    flat_split(tax_from_net(given_amount(net), rate, mode))
+    flat_split(tax_from_net(given_amount(net), pass_u32(rate), pass_u8(mode)))
 }
 
 // tax = gross x rate / (1,000,000 + rate) rounded by the mode, net = gross - tax: refusals 1, 2, 3, 4, 6.
 #[no_mangle]
-pub extern "C" fn mkb_tax_from_gross(gross: MkbAmount, rate: u32, mode: u8) -> MkbSplit
-    ensures { λ r. ⌜ r ≡ splitOf (fromGrossSaid (amountFrom gross) rate mode) ⌝ }
+pub extern "C" fn mkb_tax_from_gross(gross: MkbAmount, rate: i64, mode: i64) -> MkbSplit
+    ensures { λ r. ⌜ r ≡ splitOf (fromGrossSaid (amountFrom gross) (passed32 rate) (passed8 mode)) ⌝ }
 {
-    flat_split(tax_from_gross(given_amount(gross), rate, mode))
+    flat_split(tax_from_gross(given_amount(gross), pass_u32(rate), pass_u8(mode)))
 }

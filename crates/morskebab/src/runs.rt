@@ -1,14 +1,14 @@
 // A run of calls on one book.
-use crate::MkbBook;
-use crate::MkbRan;
-use crate::answers::books::flat_ran;
-use crate::given::given_book;
 use bulk::run;
+use flat::MkbBook;
+use flat::MkbRan;
+use flat::flat_ran;
+use flat::given_book;
 ghost use mathlib.Core.Path.{_≡_};
 ghost use lib.ListN.{length};
 ghost use Rattle.bulk.specs.Runs.{runSaid, servedOf, payoutsAfter, numbersAfter};
-ghost use Rattle.morskebab.specs.Given.{bookFrom};
-ghost use Rattle.morskebab.specs.Books.{ranOf};
+ghost use Rattle.flat.specs.Given.{bookFrom};
+ghost use Rattle.flat.specs.Books.{ranOf};
 
 // The movements in turn, kind 0 a posting and any other number a refund of the coefficient: call j's payouts at the sixteen places from
 // 16 x j on and its number, 0 where it is accepted, at place j. The places past the run stay, and all where it is refused: refusal 11.
@@ -20,10 +20,10 @@ pub extern "C" fn mkb_run(
     payouts: &mut [u64],
     numbers: &mut [u8],
 ) -> MkbRan
-    ensures said { λ r. ⌜ r ≡ ranOf (bookFrom book) (now (kinds .entry)) (now (coefficients .entry)) (runSaid (length (now (kinds .entry))) (length (now (coefficients .entry))) (length (now (payouts .entry))) (length (now (numbers .entry)))) ⌝ }
+    ensures said { λ r. ⌜ r ≡ ranOf book (now (kinds .entry)) (now (coefficients .entry)) (runSaid (length (now (kinds .entry))) (length (now (coefficients .entry))) (length (now (payouts .entry))) (length (now (numbers .entry)))) ⌝ }
     ensures paid { λ r. ⌜ now (payouts .exit) ≡ payoutsAfter (bookFrom book) (now (kinds .entry)) (now (coefficients .entry)) (now (payouts .entry)) (r .served) ⌝ }
     ensures numbered { λ r. ⌜ now (numbers .exit) ≡ numbersAfter (bookFrom book) (now (kinds .entry)) (now (coefficients .entry)) (now (numbers .entry)) (r .served) ⌝ }
 {
     let ran = run(given_book(book), kinds, coefficients, payouts, numbers);
-    flat_ran(ran)
+    flat_ran(book, ran)
 }

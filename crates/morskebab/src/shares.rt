@@ -1,14 +1,13 @@
 // One-off sharing.
-use crate::MkbAmount;
-use crate::answers::outcomes::flat_number;
-use crate::given::given_amount;
+use flat::MkbAmount;
+use flat::given_amount;
 use sharing::share;
 ghost use mathlib.Core.Path.{_≡_};
 ghost use lib.ListN.{length};
 ghost use Rattle.weights.specs.Lent.{outAfter};
 ghost use Rattle.sharing.specs.Shared.{sharedSaid};
-ghost use Rattle.morskebab.specs.Given.{amountFrom};
-ghost use Rattle.morskebab.specs.Answers.{refusalOf};
+ghost use Rattle.flat.specs.Given.{amountFrom};
+ghost use Rattle.flat.specs.Answers.{refusalOf};
 
 // The shares by largest remainder into the first places of `out`, as many as weights; the others, and every place where the call is
 // refused, stay as they stood. The answer is 0 or the refusal 2, 3, 4, 9 or 11.
@@ -18,5 +17,5 @@ pub extern "C" fn mkb_share(a: MkbAmount, weights: &[u32], out: &mut [i64]) -> u
     ensures places { λ r. ⌜ now (out .exit) ≡ outAfter (sharedSaid (amountFrom a) (now (weights .entry)) (length (now (out .entry)))) (now (out .entry)) ⌝ }
 {
     let outcome = share(given_amount(a), weights, out);
-    flat_number(outcome)
+    outcome.number()
 }

@@ -1,11 +1,15 @@
--- What `plain_quotient` says, flattened. Assumes nothing.
+-- What `plain_quotient` says of the numbers passed on, flattened. Assumes nothing.
 use borrow.Author.Needs.{needs}
-use lib.IntN.{ℤ}
 use mir.Syntax.{w64}
-use mir.Val.{SFits}
 use mir.ValLaws.{toZ-ofZ}
 use Rattle.morskebab.proofs.amounts.mkb_round.Statement.{statement}
 use Rattle.morskebab.proofs.amounts.mkb_round.Tie as tie
+
+pass-u8-requires : tie.Need-pass-u8-requires
+pass-u8-requires c κs = search needs
+
+pass-u64-requires : tie.Need-pass-u64-requires
+pass-u64-requires c κs = search needs
 
 plain-quotient-requires : tie.Need-plain-quotient-requires
 plain-quotient-requires c κs = search needs
@@ -15,8 +19,23 @@ flat-whole-requires c κs = search needs
 
 returns : tie.Need-returns
 returns c =
-    let n : ℤ = c .before .before .args .n in
-    simp (c .flat-whole .ensures, c .before .plain-quotient .ensures, toZ-ofZ w64 n (c .before .before .fits .n))
+    let s = c .before .before .before .before in
+    simp (
+      c .flat-whole .ensures,
+      c .before .plain-quotient .ensures,
+      c .before .before .pass-u64 .ensures,
+      c .before .before .before .pass-u8 .ensures,
+      toZ-ofZ w64 (s .args .mode) (s .fits .mode),
+      toZ-ofZ w64 (s .args .n) (s .fits .n),
+      toZ-ofZ w64 (s .args .d) (s .fits .d),
+    )
 
 pub mkb-round-spec : {M : Type 1} → statement M
-mkb-round-spec = tie.close (tie.spec plain-quotient-requires flat-whole-requires returns)
+mkb-round-spec =
+    tie.close
+    (tie.spec
+    pass-u8-requires
+    pass-u64-requires
+    plain-quotient-requires
+    flat-whole-requires
+    returns)

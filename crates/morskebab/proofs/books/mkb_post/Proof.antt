@@ -2,7 +2,7 @@
 use borrow.Author.Needs.{needs}
 use mathlib.Core.Path.{_∙_}
 use Rattle.book.specs.Moves.{paidOf}
-use Rattle.morskebab.proofs.Outcomes.{moved}
+use Rattle.flat.proofs.Outcomes.{moved}
 use Rattle.morskebab.proofs.books.mkb_post.Statement.{statement}
 use Rattle.morskebab.proofs.books.mkb_post.Tie as tie
 

@@ -2,7 +2,7 @@
 use borrow.Author.Needs.{needs}
 use mathlib.Core.Path.{_∙_}
 use Rattle.book.specs.Moves.{takenOf}
-use Rattle.morskebab.proofs.Outcomes.{moved}
+use Rattle.flat.proofs.Outcomes.{moved}
 use Rattle.morskebab.proofs.books.mkb_refund.Statement.{statement}
 use Rattle.morskebab.proofs.books.mkb_refund.Tie as tie
 

@@ -1,7 +1,7 @@
 -- What `Book::totals` says, flattened. Assumes nothing.
 use borrow.Author.Needs.{needs}
 use mathlib.Core.Path.{_∙_}
-use Rattle.morskebab.proofs.Outcomes.{ran}
+use Rattle.flat.proofs.Outcomes.{running}
 use Rattle.morskebab.proofs.books.mkb_running_totals.Statement.{statement}
 use Rattle.morskebab.proofs.books.mkb_running_totals.Tie as tie
 
@@ -15,7 +15,7 @@ flat-totals-requires : tie.Need-flat-totals-requires
 flat-totals-requires c κs = search needs
 
 returns : tie.Need-returns
-returns c = c .flat-totals .ensures ∙ ran _ _ (simp (c .before .before .given-book .ensures) at (c .before .totals .ensures))
+returns c = c .flat-totals .ensures ∙ running _ _ (simp (c .before .before .given-book .ensures) at (c .before .totals .ensures))
 
 pub mkb-running-totals-spec : {M : Type 1} → statement M
 mkb-running-totals-spec =

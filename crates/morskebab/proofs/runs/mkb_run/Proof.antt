@@ -2,8 +2,7 @@
 use borrow.Author.Needs.{needs}
 use denote.Ref.{now}
 use mathlib.Core.Path.{_∙_}
-use Rattle.morskebab.specs.Given.{bookFrom}
-use Rattle.morskebab.proofs.Outcomes.{served}
+use Rattle.flat.proofs.Outcomes.{served}
 use Rattle.morskebab.proofs.runs.mkb_run.Statement.{statement}
 use Rattle.morskebab.proofs.runs.mkb_run.Tie as tie
 
@@ -27,7 +26,7 @@ returns c =
     let s = c .before .before .before .before .before in
     let a = s .before .before .before .before .before .before .before .args in
     let p = rw (s .before .before .before .given-book .ensures) at (s .run .ensures) in
-    let e = served (bookFrom (a .book)) (now (a .kinds)) (now (a .coefficients)) (now (a .payouts)) (now (a .numbers)) _ _ (s .run .result) p in
+    let e = served (a .book) (now (a .kinds)) (now (a .coefficients)) (now (a .payouts)) (now (a .numbers)) _ _ (s .run .result) p in
     (c .flat-ran .ensures ∙ e, (rw (c .flat-ran .ensures) (p .paid), rw (c .flat-ran .ensures) (p .said)))
 
 pub mkb-run-spec : {M : Type 1} → statement M

@@ -1,0 +1,4 @@
+pub mod Passed
+pub mod Fields
+pub mod Outcomes
+pub mod ExactlyWhen
