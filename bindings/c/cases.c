@@ -1,50 +1,9 @@
-/* Runs document 01's cases ("Two sides of each line"), its table of currencies, numbers past every limit and books broken in each field through
- * the C face, and compares every field of every answer.
+/* Runs document 01's cases ("Two sides of each line") through the C face, and compares every field of every answer.
  * Prints how many cases passed; the exit status is not 0 where one differs. */
-#include "morskebab.h"
+#include "told.h"
 #include <limits.h>
-#include <stdio.h>
-#include <string.h>
 
-enum { EUR = 0, BEF = 1, DEM = 2, FRF = 4, IEP = 5, ITL = 6, HRK = 20 };
-
-static int passed, failed;
-
-static void tell(int ok, const char *name)
-{
-    passed += ok;
-    failed += !ok;
-    if (!ok)
-        fprintf(stderr, "c face: differs: %s\n", name);
-}
-
-static mkb_amount money(int32_t currency, int32_t scale, int64_t n) { return (mkb_amount){.currency = currency, .scale = scale, .coefficient = n}; }
-
-static int same_amount(mkb_amount a, mkb_amount b)
-{
-    return a.currency == b.currency && a.scale == b.scale && a.coefficient == b.coefficient;
-}
-
-static int same_book(const mkb_book *a, const mkb_book *b)
-{
-    return a->currency == b->currency && a->count == b->count && !memcmp(a->weights, b->weights, sizeof a->weights) && a->net == b->net;
-}
-
-/* an answer that is an amount, or the refusal and the date blamed */
-static void amount_is(const char *name, mkb_amount_answer r, mkb_amount a)
-{
-    tell(!r.refusal && !r.blamed && same_amount(r.amount, a), name);
-}
-
-static void amount_refused(const char *name, mkb_amount_answer r, int number, int blamed)
-{
-    tell(r.refusal == number && r.blamed == blamed && same_amount(r.amount, money(0, 0, 0)), name);
-}
-
-static void whole_is(const char *name, mkb_whole r, int number, int64_t value)
-{
-    tell(r.refusal == number && !r.blamed && r.value == value, name);
-}
+int passed, failed;
 
 /* the mode table: each column is n / 10 */
 static void modes(void)
@@ -64,31 +23,6 @@ static void modes(void)
     whole_is("numerator over 10^18", mkb_round(MKB_UP, INT64_C(1000000000000000001), 0), MKB_MAGNITUDE, 0);
     whole_is("the least numerator", mkb_round(MKB_UP, INT64_MIN, 1), MKB_MAGNITUDE, 0);
     whole_is("mode 7", mkb_round(7, INT64_MAX, 0), MKB_MODE, 0);
-}
-
-/* document 01's table of currencies, letter by letter */
-static void table(void)
-{
-    static const struct {
-        const char *code;
-        uint64_t figures;
-        int places, digits;
-    } lines[21] = {
-        {"EUR", 100000, 5, 2}, {"BEF", 403399, 4, 0}, {"DEM", 195583, 5, 2}, {"ESP", 166386, 3, 0}, {"FRF", 655957, 5, 2}, {"IEP", 787564, 6, 2},
-        {"ITL", 193627, 2, 0}, {"LUF", 403399, 4, 0}, {"NLG", 220371, 5, 2}, {"ATS", 137603, 4, 2}, {"PTE", 200482, 3, 0}, {"FIM", 594573, 5, 2},
-        {"GRD", 340750, 3, 0}, {"SIT", 239640, 3, 2}, {"CYP", 585274, 6, 2}, {"MTL", 429300, 6, 2}, {"SKK", 301260, 4, 2}, {"EEK", 156466, 4, 2},
-        {"LVL", 702804, 6, 2}, {"LTL", 345280, 5, 2}, {"HRK", 753450, 5, 2}};
-    for (int number = 0; number < 21; number++) {
-        mkb_line r = mkb_currency(number);
-        tell(!memcmp(r.code, lines[number].code, 3) && r.figures == lines[number].figures && r.places == lines[number].places &&
-                 r.digits == lines[number].digits,
-             lines[number].code);
-    }
-    static const int none[] = {21, 255, 256, 276, -1, INT_MIN, INT_MAX};
-    for (size_t i = 0; i < sizeof none / sizeof *none; i++) {
-        mkb_line r = mkb_currency(none[i]);
-        tell(!memcmp(r.code, "\0\0\0", 3) && !r.figures && !r.places && !r.digits, "no line of a number that no currency has");
-    }
 }
 
 static void amounts(void)
@@ -126,13 +60,6 @@ static void euro(void)
     amount_refused("the euro step over L", mkb_convert(money(IEP, 2, MKB_L), DEM), MKB_LIMIT, 0);
 }
 
-static const mkb_date feb = {2023, 2, 28}, mar = {2023, 3, 31}, none = {1900, 2, 29};
-
-static void days_are(const char *name, mkb_days r, int number, int blamed, uint32_t days)
-{
-    tell(r.refusal == number && r.blamed == blamed && r.days == days, name);
-}
-
 static void interest(void)
 {
     mkb_amount thousand = money(EUR, 2, 100000);
@@ -158,12 +85,6 @@ static void split_is(const char *name, mkb_split r, int64_t net, int64_t tax, in
     tell(!r.refusal && !r.blamed && same_amount(r.net, money(EUR, 2, net)) && same_amount(r.tax, money(EUR, 2, tax)) &&
              same_amount(r.gross, money(EUR, 2, gross)),
          name);
-}
-
-static void split_refused(const char *name, mkb_split r, int number)
-{
-    mkb_amount z = money(0, 0, 0);
-    tell(r.refusal == number && !r.blamed && same_amount(r.net, z) && same_amount(r.tax, z) && same_amount(r.gross, z), name);
 }
 
 static void tax(void)
@@ -214,15 +135,6 @@ static void moved_to(const char *name, mkb_moved r, int64_t net, const uint64_t 
     int ok = !r.refusal && !r.blamed && same_book(&r.book, &next);
     for (int i = 0; i < MKB_PARTNERS; i++)
         ok = ok && r.payouts[i] == (i < 3 ? three[i] : 0);
-    tell(ok, name);
-}
-
-/* a call is refused: the given book field for field, and sixteen noughts */
-static void not_moved(const char *name, mkb_moved r, int number, mkb_book given)
-{
-    int ok = r.refusal == number && !r.blamed && same_book(&r.book, &given);
-    for (int i = 0; i < MKB_PARTNERS; i++)
-        ok = ok && !r.payouts[i];
     tell(ok, name);
 }
 
@@ -281,81 +193,6 @@ static void refusals(void)
     tell(ok, "no totals of any values");
 }
 
-/* an `int` past its limit is refused, and not taken for the number that its last bits are */
-static void ints(void)
-{
-    int franc = 260, half_up = 260, two = 258, past = 67559, minus = -1;
-    int64_t rate = (INT64_C(1) << 32) + 500;
-    mkb_amount dem = money(DEM, 2, 10000);
-    amount_refused("to currency 260", mkb_convert(dem, franc), MKB_UNKNOWN, 0);
-    amount_refused("to currency -1", mkb_convert(dem, minus), MKB_UNKNOWN, 0);
-    amount_refused("to currency 2^32 + 4", mkb_convert(dem, (INT64_C(1) << 32) + FRF), MKB_UNKNOWN, 0);
-    amount_refused("of currency 258", mkb_convert(money(two, 2, 10000), EUR), MKB_UNKNOWN, 0);
-    amount_refused("of scale 258", mkb_convert(money(DEM, two, 10000), EUR), MKB_SCALE, 0);
-    amount_refused("of scale -1", mkb_negate(money(DEM, minus, 10000)), MKB_SCALE, 0);
-    amount_refused("to scale 258", mkb_rescale(dem, two, MKB_HALF_UP), MKB_SCALE, 0);
-    amount_refused("to scale -1", mkb_rescale(dem, minus, MKB_HALF_UP), MKB_SCALE, 0);
-    amount_refused("mode 260", mkb_rescale(dem, 1, half_up), MKB_MODE, 0);
-    amount_refused("mode -1", mkb_rescale(dem, 1, minus), MKB_MODE, 0);
-    whole_is("mode 262", mkb_round(262, -5, 2), MKB_MODE, 0);
-    whole_is("mode -1", mkb_round(minus, -5, 2), MKB_MODE, 0);
-    whole_is("mode 2^32", mkb_round(INT64_C(1) << 32, -5, 2), MKB_MODE, 0);
-    whole_is("divisor -1", mkb_round(MKB_UP, -5, minus), MKB_RATE, 0);
-    whole_is("the least divisor", mkb_round(MKB_UP, -5, INT64_MIN), MKB_RATE, 0);
-    whole_is("divisor 10^18 + 1", mkb_round(MKB_UP, -5, INT64_C(1000000000000000001)), MKB_RATE, 0);
-    amount_refused("a rate of 2^32 + 500", mkb_interest(dem, rate, 0, feb, mar, MKB_HALF_UP), MKB_RATE, 0);
-    amount_refused("a rate of -1", mkb_interest(dem, minus, 0, feb, mar, MKB_HALF_UP), MKB_RATE, 0);
-    amount_refused("basis 256", mkb_interest(dem, 500, 256, feb, mar, MKB_HALF_UP), MKB_RATE, 0);
-    amount_refused("mode 260 of interest", mkb_interest(dem, 500, 0, feb, mar, half_up), MKB_MODE, 0);
-    split_refused("a rate of 2^32 + 500 from net", mkb_tax_from_net(dem, rate, MKB_HALF_UP), MKB_RATE);
-    split_refused("a rate of -1 from gross", mkb_tax_from_gross(dem, minus, MKB_HALF_UP), MKB_RATE);
-    split_refused("mode 260 from gross", mkb_tax_from_gross(dem, 200000, half_up), MKB_MODE);
-    days_are("year 67559", mkb_day_count(0, feb, (mkb_date){past, 3, 31}), MKB_DATE, 2, 0);
-    days_are("month 258", mkb_day_count(0, (mkb_date){2023, two, 28}, mar), MKB_DATE, 1, 0);
-    days_are("day -1", mkb_day_count(0, feb, (mkb_date){2023, 3, minus}), MKB_DATE, 2, 0);
-    days_are("basis 258", mkb_day_count(two, feb, mar), MKB_RATE, 0, 0);
-    tell(!mkb_date_exists((mkb_date){past, 3, 31}) && !mkb_date_exists((mkb_date){2023, minus, 31}) && !mkb_date_exists((mkb_date){2023, 3, 287}), "no such dates");
-    mkb_opened r = mkb_open(256, weights, 3);
-    mkb_book noughts = {.net = 0};
-    tell(r.refusal == MKB_UNKNOWN && !r.blamed && same_book(&r.book, &noughts), "a book in currency 256");
-}
-
-/* a given book that is broken in one field has document 01's number in every call on it, and comes back field for field */
-static void broken(void)
-{
-    static const struct {
-        const char *name;
-        int number;
-        mkb_book book;
-    } books[] = {
-        {"currency 21", MKB_UNKNOWN, {21, 3, {5, 3, 2}, 9}},
-        {"currency 256", MKB_UNKNOWN, {256, 3, {5, 3, 2}, 9}},
-        {"currency -1", MKB_UNKNOWN, {-1, 3, {5, 3, 2}, 9}},
-        {"count 0", MKB_WEIGHTS, {EUR, 0, {5, 3, 2}, 9}},
-        {"count 17", MKB_WEIGHTS, {EUR, 17, {5, 3, 2}, 9}},
-        {"count 259", MKB_WEIGHTS, {EUR, 259, {5, 3, 2}, 9}},
-        {"count -1", MKB_WEIGHTS, {EUR, -1, {5, 3, 2}, 9}},
-        {"a weight past the count", MKB_WEIGHTS, {EUR, 2, {5, 3, 2}, 9}},
-        {"a weight at the last place", MKB_WEIGHTS, {EUR, 3, {[0] = 5, [15] = 1}, 9}},
-        {"a sum of 0", MKB_WEIGHTS, {EUR, 3, {0}, 9}},
-        {"a sum of 10,001", MKB_WEIGHTS, {EUR, 3, {9998, 2, 1}, 9}},
-        {"a sum past 2^32", MKB_WEIGHTS, {EUR, 3, {UINT32_MAX, 2, 9}, 9}},
-        {"a net total of -1", MKB_NEGATIVE, {EUR, 3, {5, 3, 2}, -1}},
-        {"a net total of L + 1", MKB_MAGNITUDE, {EUR, 3, {5, 3, 2}, MKB_L + 1}},
-        {"a net total of -(L + 1)", MKB_MAGNITUDE, {EUR, 3, {5, 3, 2}, -MKB_L - 1}},
-    };
-    for (size_t i = 0; i < sizeof books / sizeof *books; i++) {
-        mkb_book b = books[i].book;
-        not_moved(books[i].name, mkb_post(b, money(EUR, 2, 1)), books[i].number, b);
-        not_moved(books[i].name, mkb_refund(b, money(EUR, 2, 1)), books[i].number, b);
-        mkb_totals t = mkb_running_totals(b);
-        int ok = t.refusal == books[i].number && !t.blamed;
-        for (int k = 0; k < MKB_PARTNERS; k++)
-            ok = ok && !t.totals[k];
-        tell(ok, books[i].name);
-    }
-}
-
 /* the history in one run, with a refused call in it and one behind it; the places past the run stay */
 static void runs(void)
 {
@@ -386,7 +223,6 @@ int main(void)
 {
     tell(mkb_version() == MKB_VERSION, "the header and the library are of one version");
     modes();
-    table();
     amounts();
     euro();
     interest();
@@ -395,8 +231,7 @@ int main(void)
     opening();
     history();
     refusals();
-    ints();
-    broken();
+    limits();
     runs();
     if (failed) {
         printf("c face: %d cases passed, %d failed\n", passed, failed);

@@ -17,14 +17,14 @@ whole number raises TypeError, and one that its C type can't hold OverflowError;
 """
 from __future__ import annotations
 
-import operator
-from collections.abc import Mapping, Sequence
-from ctypes import Array, c_int32, c_int64, c_uint8, c_uint32, c_uint64
+from collections.abc import Sequence
+from ctypes import c_int32, c_int64, c_uint8, c_uint32, c_uint64
 from dataclasses import dataclass
 from decimal import Decimal
 from typing import Any, Callable, NamedTuple
 
 from morskebab_c import PARTNERS, VERSION, CAmount, CBook, CDate, load
+from morskebab_values import REASONS, Refused, as_list, is_a, whole
 
 __version__ = f"{VERSION // 10000}.{VERSION // 100 % 100}.{VERSION % 100}"
 
@@ -38,63 +38,6 @@ SCALE = 6
 
 _library = load()
 
-REASONS = {
-    1: "the mode isn't 0 to 6",
-    2: "a scale is over 6, or isn't the currency's own digits",
-    3: "a given coefficient or net total is over L, or a plain numerator over 10^18",
-    4: "a currency number is over 20",
-    5: "two currencies that must agree differ",
-    6: "a divisor, a rate or the basis is outside its limits",
-    7: "a date doesn't exist or its year isn't 1900 to 2199",
-    8: "the end is before the start, or the day count is over 366",
-    9: "weights break their rule",
-    10: "a posting, a refund or a given net total is negative",
-    11: "the lent output is too short",
-    12: "a refund is greater than the net total",
-    13: "the result, the euro step or the new net total is over L",
-}
-
-
-class Refused(Exception):
-    """A call was refused: `number` is document 01's, `blamed` 1 or 2 for the first or second date with number 7, else 0."""
-
-    def __init__(self, number: int, blamed: int = 0) -> None:
-        # the arguments as they are, so that it can be pickled and raised again in another process
-        super().__init__(number, blamed)
-        self.number = number
-        self.blamed = blamed
-
-    def __str__(self) -> str:
-        date = {1: " (the first date)", 2: " (the second date)"}.get(self.blamed, "")
-        return f"refusal {self.number}: {REASONS[self.number]}{date}"
-
-
-def _whole(kind: Any, field: str, value: Any) -> int:
-    """The value as a whole number that the C type holds; TypeError or OverflowError with the field's name."""
-    try:
-        n = operator.index(value)
-    except TypeError:
-        raise TypeError(f"{field} must be a whole number, not {type(value).__name__}") from None
-    if kind(n).value != n:
-        raise OverflowError(f"{field}: {n} is no {kind.__name__[2:]}")
-    return n
-
-
-def _list(kind: Any, field: str, values: Any) -> tuple[Array, int]:
-    """The values as a C list, and their number; TypeError where they have no order."""
-    if isinstance(values, (Mapping, str, bytes, bytearray)) or not hasattr(values, "__getitem__"):
-        raise TypeError(f"{field} must be a list or another sequence of whole numbers, not {type(values).__name__}")
-    held = [_whole(kind, f"{field}[{place}]", value) for place, value in enumerate(values)]
-    # one place more, so that an empty list has an address too
-    return (kind * (len(held) + 1))(*held), len(held)
-
-
-def _is_a(kind: type, field: str, value: Any) -> Any:
-    if not isinstance(value, kind):
-        raise TypeError(f"{field} must be {kind.__name__}, not {type(value).__name__}")
-    return value
-
-
 def _accepted(answer: Any) -> Any:
     if answer.refusal:
         raise Refused(answer.refusal, answer.blamed)
@@ -103,7 +46,7 @@ def _accepted(answer: Any) -> Any:
 
 def plain_quotient(mode: int, n: int, d: int) -> int:
     """n / d rounded by the mode: refusals 1, 3, 6."""
-    return _accepted(_library.mkb_round(_whole(c_int64, "mode", mode), _whole(c_int64, "n", n), _whole(c_int64, "d", d))).value
+    return _accepted(_library.mkb_round(whole(c_int64, "mode", mode), whole(c_int64, "n", n), whole(c_int64, "d", d))).value
 
 
 class Line(NamedTuple):
@@ -117,7 +60,7 @@ class Line(NamedTuple):
 
 def currency_line(currency: int) -> Line | None:
     """The table's line of a currency number; None for any number but 0 to 20."""
-    line = _library.mkb_currency(_whole(c_int64, "currency", currency))
+    line = _library.mkb_currency(whole(c_int64, "currency", currency))
     return Line(bytes(line.code).decode(), line.figures, line.places, line.digits) if line.figures else None
 
 
@@ -129,7 +72,7 @@ class Date:
 
     def __post_init__(self) -> None:
         for field in ("year", "month", "day"):
-            object.__setattr__(self, field, _whole(c_int32, field, getattr(self, field)))
+            object.__setattr__(self, field, whole(c_int32, field, getattr(self, field)))
 
     def _c(self) -> CDate:
         return CDate(self.year, self.month, self.day)
@@ -141,8 +84,8 @@ class Date:
 
 def day_count(basis: int, start: Date, end: Date) -> int:
     """The days from the start to the end by the basis: refusals 6, 7, 8."""
-    start, end = _is_a(Date, "start", start), _is_a(Date, "end", end)
-    return _accepted(_library.mkb_day_count(_whole(c_int64, "basis", basis), start._c(), end._c())).days
+    start, end = is_a(Date, "start", start), is_a(Date, "end", end)
+    return _accepted(_library.mkb_day_count(whole(c_int64, "basis", basis), start._c(), end._c())).days
 
 
 @dataclass(frozen=True, eq=False)
@@ -156,7 +99,7 @@ class Amount:
 
     def __post_init__(self) -> None:
         for field, kind in (("currency", c_int32), ("scale", c_int32), ("coefficient", c_int64)):
-            object.__setattr__(self, field, _whole(kind, field, getattr(self, field)))
+            object.__setattr__(self, field, whole(kind, field, getattr(self, field)))
 
     def _c(self) -> CAmount:
         return CAmount(self.currency, self.scale, self.coefficient)
@@ -168,19 +111,21 @@ class Amount:
     @classmethod
     def from_decimal(cls, currency: int, value: Decimal) -> Amount:
         """The exact amount: its scale is the number of the decimal's digits after the point."""
-        sign, digits, exponent = _is_a(Decimal, "value", value).as_tuple()
+        sign, digits, exponent = is_a(Decimal, "value", value).as_tuple()
         if not isinstance(exponent, int):
             raise ValueError(f"value: {value} is no number")
-        scale = max(-exponent, 0)
-        return cls(currency, scale, int(value.scaleb(scale)))
+        if exponent > 18:
+            raise OverflowError(f"value: {value} is past every coefficient")
+        magnitude = int("".join(map(str, digits))) * 10 ** max(exponent, 0)
+        return cls(currency, max(-exponent, 0), -magnitude if sign else magnitude)
 
     def as_decimal(self) -> Decimal:
         """The worth, with as many digits after the point as the scale says."""
-        return Decimal(self.coefficient).scaleb(-self.scale)
+        return Decimal((int(self.coefficient < 0), tuple(map(int, str(abs(self.coefficient)))), -self.scale))
 
     def __str__(self) -> str:
         line = currency_line(self.currency)
-        return f"{self.as_decimal():f} {line.code if line else f'currency {self.currency}'}"
+        return f"{self.as_decimal():f} {line.code}" if line and 0 <= self.scale <= SCALE else repr(self)
 
     def _key(self) -> tuple:
         """Equal for amounts of one currency and one worth, at any scale that an amount has."""
@@ -196,7 +141,7 @@ class Amount:
 
     def compare(self, other: Amount) -> int:
         """-1, 0 or 1 where this is worth less than the other, as much or more: refusals 2, 3, 4, 5."""
-        return _accepted(_library.mkb_order(self._c(), _is_a(Amount, "other", other)._c())).order
+        return _accepted(_library.mkb_order(self._c(), is_a(Amount, "other", other)._c())).order
 
     def __lt__(self, other: Amount) -> bool:
         return self.compare(other) < 0 if isinstance(other, Amount) else NotImplemented
@@ -234,30 +179,30 @@ class Amount:
 
     def rescale(self, scale: int, mode: int) -> Amount:
         """Exact to a greater scale, rounded by the mode to a smaller one: refusals 1, 2, 3, 4, 13."""
-        answer = _library.mkb_rescale(self._c(), _whole(c_int64, "scale", scale), _whole(c_int64, "mode", mode))
+        answer = _library.mkb_rescale(self._c(), whole(c_int64, "scale", scale), whole(c_int64, "mode", mode))
         return Amount._of(_accepted(answer).amount)
 
     def convert(self, to: int) -> Amount:
         """In the currency `to`, by Council Regulation (EC) No 1103/97, articles 4 and 5: refusals 2, 3, 4, 13."""
-        return Amount._of(_accepted(_library.mkb_convert(self._c(), _whole(c_int64, "to", to))).amount)
+        return Amount._of(_accepted(_library.mkb_convert(self._c(), whole(c_int64, "to", to))).amount)
 
     def interest(self, rate: int, basis: int, start: Date, end: Date, mode: int) -> Amount:
         """This x rate x days / (10,000 x year), rounded once: refusals 1, 2, 3, 4, 6, 7, 8, 13."""
-        start, end = _is_a(Date, "start", start), _is_a(Date, "end", end)
-        numbers = _whole(c_int64, "rate", rate), _whole(c_int64, "basis", basis)
-        return Amount._of(_accepted(_library.mkb_interest(self._c(), *numbers, start._c(), end._c(), _whole(c_int64, "mode", mode))).amount)
+        start, end = is_a(Date, "start", start), is_a(Date, "end", end)
+        numbers = whole(c_int64, "rate", rate), whole(c_int64, "basis", basis)
+        return Amount._of(_accepted(_library.mkb_interest(self._c(), *numbers, start._c(), end._c(), whole(c_int64, "mode", mode))).amount)
 
     def tax_as_net(self, rate: int, mode: int) -> Split:
         """Tax = net x rate / 1,000,000 rounded by the mode, gross = net + tax: refusals 1, 2, 3, 4, 6, 13."""
-        return Split._of(_accepted(_library.mkb_tax_from_net(self._c(), _whole(c_int64, "rate", rate), _whole(c_int64, "mode", mode))))
+        return Split._of(_accepted(_library.mkb_tax_from_net(self._c(), whole(c_int64, "rate", rate), whole(c_int64, "mode", mode))))
 
     def tax_as_gross(self, rate: int, mode: int) -> Split:
         """Tax = gross x rate / (1,000,000 + rate) rounded by the mode, net = gross - tax: refusals 1, 2, 3, 4, 6."""
-        return Split._of(_accepted(_library.mkb_tax_from_gross(self._c(), _whole(c_int64, "rate", rate), _whole(c_int64, "mode", mode))))
+        return Split._of(_accepted(_library.mkb_tax_from_gross(self._c(), whole(c_int64, "rate", rate), whole(c_int64, "mode", mode))))
 
     def share(self, weights: Sequence[int]) -> tuple[int, ...]:
         """The shares' coefficients by largest remainder, one for each weight: refusals 2, 3, 4, 9."""
-        lent, count = _list(c_uint32, "weights", weights)
+        lent, count = as_list(c_uint32, "weights", weights)
         out = (c_int64 * (count + 1))()
         number = _library.mkb_share(self._c(), lent, count, out, count)
         if number:
@@ -301,12 +246,12 @@ class Book:
     net: int
 
     def __post_init__(self) -> None:
-        lent, count = _list(c_uint32, "weights", self.weights)
+        lent, count = as_list(c_uint32, "weights", self.weights)
         if count > PARTNERS:
             raise OverflowError(f"weights: {count} of them, and a book has {PARTNERS} places")
-        object.__setattr__(self, "currency", _whole(c_int32, "currency", self.currency))
+        object.__setattr__(self, "currency", whole(c_int32, "currency", self.currency))
         object.__setattr__(self, "weights", tuple(lent[:count]))
-        object.__setattr__(self, "net", _whole(c_int64, "net", self.net))
+        object.__setattr__(self, "net", whole(c_int64, "net", self.net))
 
     def _c(self) -> CBook:
         return CBook(self.currency, len(self.weights), (c_uint32 * PARTNERS)(*self.weights), self.net)
@@ -318,11 +263,11 @@ class Book:
     @classmethod
     def open(cls, currency: int, weights: Sequence[int]) -> Book:
         """A book with these weights and a net total of 0: refusals 4, 9."""
-        lent, count = _list(c_uint32, "weights", weights)
-        return cls._of(_accepted(_library.mkb_open(_whole(c_int64, "currency", currency), lent, count)).book)
+        lent, count = as_list(c_uint32, "weights", weights)
+        return cls._of(_accepted(_library.mkb_open(whole(c_int64, "currency", currency), lent, count)).book)
 
     def _moved(self, call: Callable[[CBook, CAmount], Any], amount: Amount) -> Moved:
-        answer = _accepted(call(self._c(), _is_a(Amount, "amount", amount)._c()))
+        answer = _accepted(call(self._c(), is_a(Amount, "amount", amount)._c()))
         return Moved(Book._of(answer.book), tuple(answer.payouts[: answer.book.count]))
 
     def post(self, amount: Amount) -> Moved:
@@ -339,8 +284,8 @@ class Book:
 
     def run(self, kinds: Sequence[int], coefficients: Sequence[int]) -> Ran:
         """Posts (kind 0) or refunds (any other) each coefficient in turn, as `post` and `refund` would: refusal 11 for lists of unequal length."""
-        lent, calls = _list(c_uint8, "kinds", kinds)
-        given, count = _list(c_int64, "coefficients", coefficients)
+        lent, calls = as_list(c_uint8, "kinds", kinds)
+        given, count = as_list(c_int64, "coefficients", coefficients)
         payouts, numbers = (c_uint64 * (PARTNERS * calls + 1))(), (c_uint8 * (calls + 1))()
         answer = _library.mkb_run(self._c(), lent, calls, given, count, payouts, PARTNERS * calls, numbers, calls)
         last = Book._of(_accepted(answer).book)

@@ -1,18 +1,26 @@
-"""Document 01's cases ("Two sides of each line") through the Python module. Prints how many checks passed."""
+"""Document 01's cases ("Two sides of each line") through the Python module, and what is Python's own. Prints how many checks passed."""
 import doctest
+import multiprocessing
+import pathlib
+import pickle
+import re
+from ctypes import c_uint32
+from decimal import Decimal
 
 import morskebab
 from morskebab import (
-    DEM, EUR, FRF, IEP, ITL, CEILING, DOWN, FLOOR, HALF_DOWN, HALF_EVEN, HALF_UP, UP, L,
+    DEM, EUR, FRF, IEP, ITL, CEILING, DOWN, FLOOR, HALF_DOWN, HALF_EVEN, HALF_UP, UP, L, REASONS,
     Amount, Book, Date, Moved, Ran, Refused, Split, currency_line, day_count, plain_quotient,
 )
+from morskebab_c import PARTNERS, CAmount, CBook
 
 passed = 0
 
 
 def same(got, wanted):
+    """Field for field: amounts of one worth are `==` at any scale."""
     global passed
-    assert got == wanted, f"{got!r} is not {wanted!r}"
+    assert got == wanted and repr(got) == repr(wanted), f"{got!r} is not {wanted!r}"
     passed += 1
 
 
@@ -25,13 +33,14 @@ def refused(number, call, blamed=0):
     raise AssertionError(f"{got!r} and not refusal {number}")
 
 
-def overflows(call):
+def named(error, field, call):
+    """The call raises the error, which begins with the field's name."""
     try:
         got = call()
-    except OverflowError:
-        same(True, True)
+    except error as raised:
+        same(str(raised)[: len(field)], field)
         return
-    raise AssertionError(f"{got!r} of a number that its type can't hold")
+    raise AssertionError(f"{got!r} and no {error.__name__} of {field}")
 
 
 def euros(coefficient, scale=2):
@@ -72,11 +81,75 @@ def amounts():
     refused(4, lambda: -Amount(21, 2, 1))
     same(euros(125).rescale(1, HALF_EVEN), euros(12, 1))
     refused(1, lambda: Amount(21, 2, 1).rescale(1, 7))
-    overflows(lambda: -Amount(256, 2, 1))
-    overflows(lambda: -euros(2**63))
-    overflows(lambda: plain_quotient(UP, 1, -1))
-    same(currency_line(DEM), ("DEM", 195583, 5, 2))
-    same(currency_line(21), None)
+    same((euros(15, 1) - euros(25), sum([euros(1), euros(25, 1)])), (euros(125), euros(251)))
+    refused(13, lambda: euros(-L) - euros(1))
+    refused(3, lambda: euros(1) - euros(-(2**63)))
+    refused(2, lambda: euros(1, 7) - euros(L + 1))
+    refused(5, lambda: euros(1) - Amount(DEM, 2, 1))
+    same((euros(15, 1) == euros(150), hash(euros(15, 1)) == hash(euros(150)), euros(1) == Amount(DEM, 2, 1), euros(1) == 1), (True, True, False, False))
+    same((euros(15, 1) <= euros(150), euros(15, 1) < euros(150), euros(2, 0) > euros(150), euros(149) >= euros(15, 1)), (True, False, True, False))
+    same(sorted([euros(3), euros(1, 0), euros(-2)]), [euros(-2), euros(3), euros(1, 0)])
+    refused(5, lambda: euros(1) < Amount(DEM, 2, 1))
+
+
+def past_limits():
+    """A number past its limit is refused with its own number, and not taken for the one that its last bits are."""
+    refused(4, lambda: Amount(DEM, 2, 10000).convert(260))
+    refused(4, lambda: -Amount(256, 2, 1))
+    refused(4, lambda: -Amount(-1, 2, 1))
+    refused(2, lambda: -euros(1, 258))
+    refused(2, lambda: euros(1).rescale(-1, UP))
+    refused(1, lambda: plain_quotient(262, -5, 2))
+    refused(6, lambda: plain_quotient(UP, 1, -1))
+    refused(6, lambda: euros(1).tax_as_net(2**32 + 500, UP))
+    refused(7, lambda: day_count(0, Date(67559, 1, 1), Date(2023, 1, 1)), blamed=1)
+    refused(4, lambda: Book.open(256, [1]))
+
+
+def texts_and_decimals():
+    same((str(euros(-1250)), str(euros(5, 0)), str(Amount(DEM, 6, -1)), str(euros(0))), ("-12.50 EUR", "5 EUR", "-0.000001 DEM", "0.00 EUR"))
+    for text, amount in (("-12.50", euros(-1250)), ("0.00", euros(0)), ("1E+3", euros(1000, 0)), ("0.000001", euros(1, 6)), ("-0", euros(0, 0))):
+        same(Amount.from_decimal(EUR, Decimal(text)), amount)
+        same(Amount.from_decimal(EUR, amount.as_decimal()), amount)
+    same(euros(-1250).as_decimal(), Decimal("-12.50"))
+    refused(2, lambda: -Amount.from_decimal(EUR, Decimal("0.0000001")))
+    named(ValueError, "value", lambda: Amount.from_decimal(EUR, Decimal("NaN")))
+    named(OverflowError, "value", lambda: Amount.from_decimal(EUR, Decimal("1E+999999999")))
+    named(OverflowError, "coefficient", lambda: Amount.from_decimal(EUR, Decimal(2**63)))
+    named(TypeError, "value", lambda: Amount.from_decimal(EUR, 12.5))
+
+
+def fields():
+    """An error names the field: a wrong type, a number that C can't hold, a collection without order."""
+    named(TypeError, "coefficient must be a whole number, not float", lambda: euros(12.5))
+    named(TypeError, "scale", lambda: euros(1, "2"))
+    named(TypeError, "mode", lambda: euros(1).rescale(1, None))
+    named(TypeError, "year", lambda: Date("2023", 1, 1))
+    named(TypeError, "start", lambda: day_count(0, "2023-01-01", Date(2023, 1, 1)))
+    named(TypeError, "amount", lambda: Book(EUR, (1,), 0).post(7))
+    named(TypeError, "weights[1]", lambda: euros(1).share([1, 0.5]))
+    for weights in ({5, 3, 2}, frozenset([1]), {5: 1}, {5: 1}.keys(), "532", b"532", 5, iter([1])):
+        named(TypeError, "weights must be", lambda: euros(1).share(weights))
+        named(TypeError, "weights must be", lambda: Book.open(EUR, weights))
+        named(TypeError, "weights must be", lambda: Book(EUR, weights, 0))
+    named(OverflowError, "coefficient: 9223372036854775808 is outside -9223372036854775808 to", lambda: euros(2**63))
+    named(OverflowError, "currency", lambda: Amount(2**31, 2, 1))
+    named(OverflowError, "rate", lambda: euros(1).tax_as_net(2**64, UP))
+    named(OverflowError, "weights[2]: -1 is outside 0 to 4294967295", lambda: euros(1).share([1, 1, -1]))
+    named(OverflowError, "weights: 17", lambda: Book(EUR, (1,) * 17, 0))
+    same(Book(EUR, [5, 3, 2], 0), Book(EUR, (5, 3, 2), 0))
+
+
+def lines():
+    """Document 01's table of currencies, letter by letter."""
+    table = """EUR 100000 5 2  BEF 403399 4 0  DEM 195583 5 2  ESP 166386 3 0  FRF 655957 5 2  IEP 787564 6 2  ITL 193627 2 0
+               LUF 403399 4 0  NLG 220371 5 2  ATS 137603 4 2  PTE 200482 3 0  FIM 594573 5 2  GRD 340750 3 0  SIT 239640 3 2
+               CYP 585274 6 2  MTL 429300 6 2  SKK 301260 4 2  EEK 156466 4 2  LVL 702804 6 2  LTL 345280 5 2  HRK 753450 5 2""".split()
+    for number in range(21):
+        code, *numbers = table[4 * number : 4 * number + 4]
+        same(tuple(currency_line(number)), (code, *map(int, numbers)))
+        same(getattr(morskebab, code), number)
+    same([currency_line(number) for number in (21, 255, 256, -1, 2**40)], [None] * 5)
 
 
 def euro_steps():
@@ -141,7 +214,6 @@ def books():
     refused(9, lambda: Book.open(EUR, [10000, 1]))
     refused(4, lambda: Book.open(21, []))
     refused(10, lambda: Book(EUR, (5, 3, 2), -1).running_totals())
-    overflows(lambda: Book(EUR, (1,) * 17, 0).running_totals())
     none = (0, 0, 0)
     ran = Book.open(EUR, [5, 3, 2]).run([0, 0, 1, 1, 0], [7, 5, 3, 10, L])
     same(ran, Ran(Book(EUR, (5, 3, 2), 9), ((4, 2, 1), (2, 2, 1), (1, 1, 1), none, none), (0, 0, 0, 12, 13)))
@@ -149,8 +221,53 @@ def books():
     refused(11, lambda: book.run([0, 1], [1]))
 
 
-for part in (modes, amounts, euro_steps, days, prices, shares, books):
-    part()
-examples = doctest.testmod(morskebab)
-assert not examples.failed
-print(f"python: {passed + examples.attempted} checks passed")
+def broken_books():
+    """A given book that is broken in one field has document 01's number in every call on it, and comes back field for field."""
+    whole = (5, 3, 2)
+    for number, currency, count, weights, net in (
+        (4, 21, 3, whole, 9), (4, 256, 3, whole, 9), (4, -1, 3, whole, 9), (9, EUR, 0, whole, 9), (9, EUR, 17, whole, 9), (9, EUR, 259, whole, 9),
+        (9, EUR, 2, whole, 9), (9, EUR, 3, (5,) + (0,) * 14 + (1,), 9), (9, EUR, 3, (), 9), (9, EUR, 3, (9998, 2, 1), 9),
+        (10, EUR, 3, whole, -1), (3, EUR, 3, whole, L + 1), (3, EUR, 3, whole, -L - 1),
+    ):
+        book = CBook(currency, count, (c_uint32 * PARTNERS)(*weights), net)
+        for call in (morskebab._library.mkb_post, morskebab._library.mkb_refund):
+            r = call(book, CAmount(EUR, 2, 1))
+            same((r.refusal, r.blamed, bytes(r.book), any(r.payouts)), (number, 0, bytes(book), False))
+        r = morskebab._library.mkb_running_totals(book)
+        same((r.refusal, r.blamed, any(r.totals)), (number, 0, False))
+    refused(4, lambda: Book(21, whole, 9).post(euros(1)))
+    refused(9, lambda: Book(EUR, (), 9).refund(euros(1)))
+    refused(9, lambda: Book(EUR, (10000, 1), 9).running_totals())
+    refused(3, lambda: Book(EUR, whole, L + 1).post(euros(1)))
+
+
+def negated(coefficient):
+    return -euros(coefficient)
+
+
+def processes():
+    """A refusal passes from one process to another."""
+    for number in REASONS:
+        for blamed in range(3):
+            back = pickle.loads(pickle.dumps(Refused(number, blamed)))
+            same((type(back), back.number, back.blamed, str(back)), (Refused, number, blamed, str(Refused(number, blamed))))
+    with multiprocessing.Pool(2) as pool:
+        same(pool.map(negated, [1, L]), [euros(-1), euros(-L)])
+        refused(3, lambda: pool.map(negated, [1, L + 1]))
+
+
+def versions():
+    header = (pathlib.Path(__file__).parent.parent / "c" / "morskebab.h").read_text()
+    same((morskebab.__version__, morskebab.VERSION), ("1.0.0", int(re.search(r"#define MKB_VERSION UINT32_C\((\d+)\)", header)[1])))
+
+
+def main():
+    for part in (modes, amounts, past_limits, texts_and_decimals, fields, lines, euro_steps, days, prices, shares, books, broken_books, processes, versions):
+        part()
+    examples = doctest.testmod(morskebab)
+    assert not examples.failed
+    print(f"python: {passed + examples.attempted} checks passed")
+
+
+if __name__ == "__main__":
+    main()

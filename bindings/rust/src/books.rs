@@ -20,13 +20,13 @@ pub struct Moved {
 
 impl From<Book> for ffi::Book {
     fn from(b: Book) -> Self {
-        ffi::Book { currency: b.currency.0, count: b.count, weights: b.weights, net: b.net }
+        ffi::Book { currency: b.currency.0.into(), count: b.count.into(), weights: b.weights, net: b.net }
     }
 }
 
 impl From<ffi::Book> for Book {
     fn from(b: ffi::Book) -> Self {
-        Book { currency: Currency(b.currency), count: b.count, weights: b.weights, net: b.net }
+        Book { currency: Currency(ffi::small(b.currency)), count: ffi::small(b.count), weights: b.weights, net: b.net }
     }
 }
 
@@ -40,7 +40,7 @@ impl From<ffi::Moved> for Result<Moved, Refusal> {
 impl Book {
     /// A book with these weights and a net total of 0: refusals 4, 9.
     pub fn open(currency: Currency, weights: &[u32]) -> Result<Book, Refusal> {
-        let r = unsafe { ffi::mkb_open(currency.0, weights.as_ptr(), weights.len()) };
+        let r = unsafe { ffi::mkb_open(currency.0.into(), weights.as_ptr(), weights.len()) };
         Refusal::or(r.refusal, r.blamed, r.book.into())
     }
 

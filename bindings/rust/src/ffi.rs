@@ -3,24 +3,24 @@
 #[repr(C)]
 #[derive(Clone, Copy)]
 pub struct Amount {
-    pub currency: u8,
-    pub scale: u8,
+    pub currency: i32,
+    pub scale: i32,
     pub coefficient: i64,
 }
 
 #[repr(C)]
 #[derive(Clone, Copy)]
 pub struct Date {
-    pub year: u16,
-    pub month: u8,
-    pub day: u8,
+    pub year: i32,
+    pub month: i32,
+    pub day: i32,
 }
 
 #[repr(C)]
 #[derive(Clone, Copy)]
 pub struct Book {
-    pub currency: u8,
-    pub count: u8,
+    pub currency: i32,
+    pub count: i32,
     pub weights: [u32; 16],
     pub net: i64,
 }
@@ -100,21 +100,27 @@ pub struct Ran {
     pub served: u64,
 }
 
+/// A field of what the library hands back: such a number is a `u8` of its own.
+pub fn small(n: i32) -> u8 {
+    n as u8
+}
+
 extern "C" {
-    pub fn mkb_round(mode: u8, n: i64, d: u64) -> Whole;
-    pub fn mkb_currency(currency: u8) -> Line;
+    pub fn mkb_version() -> u32;
+    pub fn mkb_round(mode: i64, n: i64, d: i64) -> Whole;
+    pub fn mkb_currency(currency: i64) -> Line;
     pub fn mkb_sum(a: Amount, b: Amount) -> AmountAnswer;
     pub fn mkb_order(a: Amount, b: Amount) -> OrderAnswer;
     pub fn mkb_negate(a: Amount) -> AmountAnswer;
-    pub fn mkb_rescale(a: Amount, scale: u8, mode: u8) -> AmountAnswer;
-    pub fn mkb_convert(a: Amount, to: u8) -> AmountAnswer;
+    pub fn mkb_rescale(a: Amount, scale: i64, mode: i64) -> AmountAnswer;
+    pub fn mkb_convert(a: Amount, to: i64) -> AmountAnswer;
     pub fn mkb_date_exists(date: Date) -> bool;
-    pub fn mkb_day_count(basis: u8, start: Date, end: Date) -> Days;
-    pub fn mkb_interest(principal: Amount, rate: u32, basis: u8, start: Date, end: Date, mode: u8) -> AmountAnswer;
-    pub fn mkb_tax_from_net(net: Amount, rate: u32, mode: u8) -> Split;
-    pub fn mkb_tax_from_gross(gross: Amount, rate: u32, mode: u8) -> Split;
+    pub fn mkb_day_count(basis: i64, start: Date, end: Date) -> Days;
+    pub fn mkb_interest(principal: Amount, rate: i64, basis: i64, start: Date, end: Date, mode: i64) -> AmountAnswer;
+    pub fn mkb_tax_from_net(net: Amount, rate: i64, mode: i64) -> Split;
+    pub fn mkb_tax_from_gross(gross: Amount, rate: i64, mode: i64) -> Split;
     pub fn mkb_share(a: Amount, weights: *const u32, count: usize, out: *mut i64, room: usize) -> u8;
-    pub fn mkb_open(currency: u8, weights: *const u32, count: usize) -> Opened;
+    pub fn mkb_open(currency: i64, weights: *const u32, count: usize) -> Opened;
     pub fn mkb_post(book: Book, a: Amount) -> Moved;
     pub fn mkb_refund(book: Book, a: Amount) -> Moved;
     pub fn mkb_running_totals(book: Book) -> Totals;

@@ -38,10 +38,16 @@ pub mod basis {
     pub const THIRTY_360: u8 = 2;
 }
 
+/// The version of the library that is linked: 10,000 x major + 100 x minor + patch.
+pub fn version() -> u32 {
+    // SAFETY: nothing crosses but the answer
+    unsafe { ffi::mkb_version() }
+}
+
 /// n / d rounded by the mode: refusals 1, 3, 6.
 pub fn plain_quotient(mode: u8, n: i64, d: u64) -> Result<i64, Refusal> {
     // SAFETY: numbers alone cross
-    let r = unsafe { ffi::mkb_round(mode, n, d) };
+    let r = unsafe { ffi::mkb_round(mode.into(), n, i64::try_from(d).unwrap_or(i64::MAX)) };
     Refusal::or(r.refusal, r.blamed, r.value)
 }
 
@@ -62,7 +68,7 @@ impl Currency {
     /// The table's line; all 0 for a number over 20.
     pub fn line(self) -> Line {
         // SAFETY: a number alone crosses
-        let l = unsafe { ffi::mkb_currency(self.0) };
+        let l = unsafe { ffi::mkb_currency(self.0.into()) };
         Line { code: l.code, figures: l.figures, places: l.places, digits: l.digits }
     }
 }
@@ -77,13 +83,13 @@ pub struct Amount {
 
 impl From<Amount> for ffi::Amount {
     fn from(a: Amount) -> Self {
-        ffi::Amount { currency: a.currency.0, scale: a.scale, coefficient: a.coefficient }
+        ffi::Amount { currency: a.currency.0.into(), scale: a.scale.into(), coefficient: a.coefficient }
     }
 }
 
 impl From<ffi::Amount> for Amount {
     fn from(a: ffi::Amount) -> Self {
-        Amount::new(Currency(a.currency), a.scale, a.coefficient)
+        Amount::new(Currency(ffi::small(a.currency)), ffi::small(a.scale), a.coefficient)
     }
 }
 
@@ -134,27 +140,27 @@ impl Amount {
 
     /// Exact to a greater scale, rounded by the mode to a smaller one: refusals 1, 2, 3, 4, 13.
     pub fn rescale(self, scale: u8, mode: u8) -> Result<Amount, Refusal> {
-        unsafe { ffi::mkb_rescale(self.into(), scale, mode) }.into()
+        unsafe { ffi::mkb_rescale(self.into(), scale.into(), mode.into()) }.into()
     }
 
     /// In the currency `to`, by Council Regulation (EC) No 1103/97, articles 4 and 5: refusals 2, 3, 4, 13.
     pub fn convert(self, to: Currency) -> Result<Amount, Refusal> {
-        unsafe { ffi::mkb_convert(self.into(), to.0) }.into()
+        unsafe { ffi::mkb_convert(self.into(), to.0.into()) }.into()
     }
 
     /// This x rate x days / (10,000 x year), rounded once: refusals 1, 2, 3, 4, 6, 7, 8, 13.
     pub fn interest(self, rate: u32, basis: u8, start: Date, end: Date, mode: u8) -> Result<Amount, Refusal> {
-        unsafe { ffi::mkb_interest(self.into(), rate, basis, start.into(), end.into(), mode) }.into()
+        unsafe { ffi::mkb_interest(self.into(), rate.into(), basis.into(), start.into(), end.into(), mode.into()) }.into()
     }
 
     /// Tax = net x rate / 1,000,000 rounded by the mode, gross = net + tax: refusals 1, 2, 3, 4, 6, 13.
     pub fn tax_as_net(self, rate: u32, mode: u8) -> Result<Split, Refusal> {
-        unsafe { ffi::mkb_tax_from_net(self.into(), rate, mode) }.into()
+        unsafe { ffi::mkb_tax_from_net(self.into(), rate.into(), mode.into()) }.into()
     }
 
     /// Tax = gross x rate / (1,000,000 + rate) rounded by the mode, net = gross - tax: refusals 1, 2, 3, 4, 6.
     pub fn tax_as_gross(self, rate: u32, mode: u8) -> Result<Split, Refusal> {
-        unsafe { ffi::mkb_tax_from_gross(self.into(), rate, mode) }.into()
+        unsafe { ffi::mkb_tax_from_gross(self.into(), rate.into(), mode.into()) }.into()
     }
 
     /// The shares by largest remainder into the first places of `out`, as many as weights; the others, and every place where the call is
@@ -175,7 +181,7 @@ pub struct Date {
 
 impl From<Date> for ffi::Date {
     fn from(d: Date) -> Self {
-        ffi::Date { year: d.year, month: d.month, day: d.day }
+        ffi::Date { year: d.year.into(), month: d.month.into(), day: d.day.into() }
     }
 }
 
@@ -193,6 +199,6 @@ impl Date {
 /// The days from the start to the end by the basis: refusals 6, 7, 8.
 pub fn day_count(basis: u8, start: Date, end: Date) -> Result<u32, Refusal> {
     // SAFETY: as above
-    let r = unsafe { ffi::mkb_day_count(basis, start.into(), end.into()) };
+    let r = unsafe { ffi::mkb_day_count(basis.into(), start.into(), end.into()) };
     Refusal::or(r.refusal, r.blamed, r.days)
 }

@@ -59,6 +59,26 @@ impl Refusal {
         }
     }
 
+    /// The row's words.
+    pub fn words(self) -> &'static str {
+        match self {
+            Refusal::Mode => "the mode isn't 0 to 6",
+            Refusal::Scale => "a scale is over 6, or isn't the currency's own digits",
+            Refusal::Magnitude => "a given coefficient or net total is over L, or a plain numerator over 10^18",
+            Refusal::Unknown => "a currency number is over 20",
+            Refusal::Differ => "two currencies that must agree differ",
+            Refusal::Rate => "a divisor, a rate or the basis is outside its limits",
+            Refusal::Date(Blamed::First) => "a date doesn't exist or its year isn't 1900 to 2199 (the first date)",
+            Refusal::Date(Blamed::Second) => "a date doesn't exist or its year isn't 1900 to 2199 (the second date)",
+            Refusal::Days => "the end is before the start, or the day count is over 366",
+            Refusal::Weights => "weights break their rule",
+            Refusal::Negative => "a posting, a refund or a given net total is negative",
+            Refusal::Room => "the lent output is too short",
+            Refusal::Refund => "a refund is greater than the net total",
+            Refusal::Limit => "the result, the euro step or the new net total is over L",
+        }
+    }
+
     /// The value where the number is 0, else the refusal of the number.
     pub(crate) fn or<T>(number: u8, blamed: u8, value: T) -> Result<T, Refusal> {
         Err(match number {
@@ -84,7 +104,7 @@ impl Refusal {
 
 impl fmt::Display for Refusal {
     fn fmt(&self, f: &mut fmt::Formatter<'_>) -> fmt::Result {
-        write!(f, "refusal {}: {self:?}", self.number())
+        write!(f, "refusal {}: {}", self.number(), self.words())
     }
 }
 

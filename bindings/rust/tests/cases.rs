@@ -1,5 +1,5 @@
-//! Document 01's cases ("Two sides of each line") through the Rust crate.
-use morskebab::{day_count, mode, plain_quotient, Amount, Blamed, Book, Currency, Date, Moved, Refusal, Split};
+//! Document 01's cases ("Two sides of each line"), its table of currencies and books broken in each field through the Rust crate.
+use morskebab::{day_count, mode, plain_quotient, version, Amount, Blamed, Book, Currency, Date, Moved, Refusal, Split};
 use std::cmp::Ordering;
 
 const EUR: Currency = Currency(0);
@@ -34,6 +34,8 @@ fn seven_modes() {
     assert_eq!(plain_quotient(mode::FLOOR, -5, 0), Err(Refusal::Rate));
     assert_eq!(plain_quotient(mode::UP, i64::MIN, 0), Err(Refusal::Magnitude));
     assert_eq!(plain_quotient(7, i64::MIN, 0), Err(Refusal::Mode));
+    assert_eq!(plain_quotient(mode::UP, 1, u64::MAX), Err(Refusal::Rate));
+    assert_eq!(plain_quotient(mode::UP, 1, 1 << 63), Err(Refusal::Rate));
 }
 
 #[test]
@@ -51,8 +53,37 @@ fn amounts() {
     assert_eq!(Amount::new(Currency(21), 2, 1).negate(), Err(Refusal::Unknown));
     assert_eq!(euros(125).rescale(1, mode::HALF_EVEN), Ok(tenths(12)));
     assert_eq!(Amount::new(Currency(21), 2, 1).rescale(1, 7), Err(Refusal::Mode));
-    assert_eq!((DEM.line().code, DEM.line().figures, DEM.line().places, DEM.line().digits), (*b"DEM", 195_583, 5, 2));
-    assert_eq!(Currency(21).line().figures, 0);
+}
+
+/// Document 01's table of currencies, letter by letter.
+#[test]
+fn table_of_currencies() {
+    #[rustfmt::skip]
+    let lines: [(&[u8; 3], u64, u8, u8); 21] = [
+        (b"EUR", 100_000, 5, 2), (b"BEF", 403_399, 4, 0), (b"DEM", 195_583, 5, 2), (b"ESP", 166_386, 3, 0), (b"FRF", 655_957, 5, 2),
+        (b"IEP", 787_564, 6, 2), (b"ITL", 193_627, 2, 0), (b"LUF", 403_399, 4, 0), (b"NLG", 220_371, 5, 2), (b"ATS", 137_603, 4, 2),
+        (b"PTE", 200_482, 3, 0), (b"FIM", 594_573, 5, 2), (b"GRD", 340_750, 3, 0), (b"SIT", 239_640, 3, 2), (b"CYP", 585_274, 6, 2),
+        (b"MTL", 429_300, 6, 2), (b"SKK", 301_260, 4, 2), (b"EEK", 156_466, 4, 2), (b"LVL", 702_804, 6, 2), (b"LTL", 345_280, 5, 2),
+        (b"HRK", 753_450, 5, 2),
+    ];
+    for (number, line) in (0..).zip(lines) {
+        let r = Currency(number).line();
+        assert_eq!((&r.code, r.figures, r.places, r.digits), line);
+    }
+    for number in 21..=255 {
+        let r = Currency(number).line();
+        assert_eq!((r.code, r.figures, r.places, r.digits), ([0; 3], 0, 0, 0));
+    }
+}
+
+#[test]
+fn versions_and_words() {
+    let parts: Vec<u32> = env!("CARGO_PKG_VERSION").split('.').map(|part| part.parse().expect("a number")).collect();
+    assert_eq!(version(), 10_000 * parts[0] + 100 * parts[1] + parts[2]);
+    assert!(include_str!("../../c/morskebab.h").contains(&format!("#define MKB_VERSION UINT32_C({})\n", version())));
+    assert_eq!(Refusal::Unknown.to_string(), "refusal 4: a currency number is over 20");
+    let late = day_count(0, Date::new(2023, 1, 1), Date::new(1900, 2, 29)).unwrap_err();
+    assert_eq!(late.to_string(), "refusal 7: a date doesn't exist or its year isn't 1900 to 2199 (the second date)");
 }
 
 #[test]
@@ -133,6 +164,36 @@ fn share_book() {
     assert_eq!(Book::open(EUR, &[9_999, 1]).map(|b| b.count), Ok(2));
     assert_eq!(Book::open(EUR, &[10_000, 1]), Err(Refusal::Weights));
     assert_eq!(Book::open(Currency(21), &[]), Err(Refusal::Unknown));
+}
+
+/// A given book that is broken in one field has document 01's number in every call on it.
+#[test]
+fn broken_books() {
+    let full = at(9);
+    let weights = |first: [u32; 3], last| {
+        let mut all = [0; 16];
+        all[..3].copy_from_slice(&first);
+        all[15] = last;
+        all
+    };
+    for (book, refusal) in [
+        (Book { currency: Currency(21), ..full }, Refusal::Unknown),
+        (Book { currency: Currency(255), ..full }, Refusal::Unknown),
+        (Book { count: 0, ..full }, Refusal::Weights),
+        (Book { count: 17, ..full }, Refusal::Weights),
+        (Book { count: 255, ..full }, Refusal::Weights),
+        (Book { count: 2, ..full }, Refusal::Weights),
+        (Book { weights: weights([5, 3, 2], 1), ..full }, Refusal::Weights),
+        (Book { weights: weights([0, 0, 0], 0), ..full }, Refusal::Weights),
+        (Book { weights: weights([9_998, 2, 1], 0), ..full }, Refusal::Weights),
+        (Book { net: -1, ..full }, Refusal::Negative),
+        (Book { net: Amount::L + 1, ..full }, Refusal::Magnitude),
+        (Book { net: -Amount::L - 1, ..full }, Refusal::Magnitude),
+    ] {
+        assert_eq!(book.post(euros(1)), Err(refusal));
+        assert_eq!(book.refund(euros(1)), Err(refusal));
+        assert_eq!(book.running_totals(), Err(refusal));
+    }
 }
 
 #[test]
