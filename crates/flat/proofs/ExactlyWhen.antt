@@ -33,5 +33,5 @@ passes (row r true ∷ rows) said e = absurd (never-nought r e)
 passes (row r false ∷ rows) said e = passes rows said e
 
 -- a call with these rows and this value is accepted, with the value, exactly where C reads 0
-pub accepted : {A : Type 0} (rows : List Row) (value : A) → (refusalOf (firstRow rows (gives value)) ≡ 0) ↔ (firstRow rows (gives value) ≡ gives value)
-accepted rows value = (passes rows (gives value), λ e. ap refusalOf e)
+pub accepted-exactly-when : {A : Type 0} (rows : List Row) (value : A) → (refusalOf (firstRow rows (gives value)) ≡ 0) ↔ (firstRow rows (gives value) ≡ gives value)
+accepted-exactly-when rows value = (passes rows (gives value), λ e. ap refusalOf e)
