@@ -2,7 +2,7 @@
 -- a limit below the largest value only where it is the number that was given: no number past a limit is taken for one within it. Assumes nothing.
 use mathlib.Core.Path.{_≡_, refl, sym, ap}
 use mathlib.Core.Bool.{true, false}
-use Prim.Native.Nat.{ℕ, _≤_, _<_, min}
+use Prim.Native.Nat.{ℕ, _≤_, _<_, _^_, min}
 use native.Mathlib.Omega.{arith}
 use lib.IntN.{ℤ, pos, negsuc}
 use Rattle.whole.specs.Whole.{negative, magnitudeOf}
@@ -28,3 +28,8 @@ at-most largest (negsuc n) = omega arith
 pub within-limit : (limit largest : ℕ) (n : ℤ) → limit < largest → passed largest n ≤ limit → n ≡ pos (passed largest n)
 within-limit limit largest (pos n) l h = ap pos (omega arith)
 within-limit limit largest (negsuc n) l h = absurd (omega arith)
+
+-- and each limit of document 01 is below the largest value of its type: the mode and the scale, the count, the currency, the day, the year, the
+-- two rates, the plain divisor
+pub limits-below : (6 < 255) × ((16 < 255) × ((20 < 255) × ((31 < 255) × ((2199 < 65535) × ((1000000 < 4294967295) × (10 ^ 18 < 18446744073709551615))))))
+limits-below = (omega arith, (omega arith, (omega arith, (omega arith, (omega arith, (omega arith, omega arith))))))

@@ -1,6 +1,6 @@
 -- Every promise of the face is an equation: the answer is a term over what C gave, and so is every lent place. Two answers that such a promise
 -- allows are equal, and so are the lent places that they leave. Assumes nothing.
-use mathlib.Core.Path.{_≡_, sym, _∙_}
+use mathlib.Core.Path.{_≡_, sym, _∙_, ap}
 use mathlib.Core.List.{List}
 use Prim.Native.Nat.{ℕ}
 use lib.IntN.{ℤ}
@@ -8,9 +8,12 @@ use lib.ListN.{length}
 use Rattle.rounding.proofs.Unique.{one-answer}
 use Rattle.sharing.specs.Shared.{sharedSaid, outAfter}
 use Rattle.flat.specs.declared.MkbAmount.{MkbAmount}
+use Rattle.bulk.specs.Runs.{runSaid, payoutsAfter, numbersAfter}
+use Rattle.flat.specs.declared.MkbBook.{MkbBook}
 use Rattle.flat.specs.declared.MkbRan.{MkbRan}
-use Rattle.flat.specs.Given.{amountFrom}
+use Rattle.flat.specs.Given.{amountFrom, bookFrom}
 use Rattle.flat.specs.Answers.{refusalOf}
+use Rattle.flat.specs.Books.{ranOf}
 
 -- what `mkb_share` promises of its answer and of the output that it was lent
 abbrev pub Shares : MkbAmount → (weights : List ℕ) (out : List ℤ) (r : ℕ) (left : List ℤ) → Type 0
@@ -21,11 +24,17 @@ pub one-share : (a : MkbAmount) (weights : List ℕ) (out : List ℤ) (r s : ℕ
     → Shares a weights out r left → Shares a weights out s left′ → (r ≡ s) × (left ≡ left′)
 one-share a weights out r s left left′ p q = (one-answer (p .0) (q .0), one-answer (p .1) (q .1))
 
--- a run: the answer, and the lent places, which are those after as many calls as the answer says were served
-pub one-run : (answer : MkbRan) (payouts numbers : ℕ → List ℕ) (r s : MkbRan) (paid paid′ said said′ : List ℕ)
-    → r ≡ answer → paid ≡ payouts (r .served) → said ≡ numbers (r .served)
-    → s ≡ answer → paid′ ≡ payouts (s .served) → said′ ≡ numbers (s .served)
+-- what `mkb_run` promises of its answer and of the places that it was lent, which are those after as many calls as the answer says were served
+pub record Ran (book : MkbBook) (kinds : List ℕ) (coefficients : List ℤ) (payouts numbers : List ℕ) (r : MkbRan) (paid said : List ℕ) : Type 0 where
+  pub answer : r ≡ ranOf book kinds coefficients (runSaid (length kinds) (length coefficients) (length payouts) (length numbers))
+  pub pays : paid ≡ payoutsAfter (bookFrom book) kinds coefficients payouts (r .served)
+  pub numbered : said ≡ numbersAfter (bookFrom book) kinds coefficients numbers (r .served)
+
+pub one-run : (book : MkbBook) (kinds : List ℕ) (coefficients : List ℤ) (payouts numbers : List ℕ) (r s : MkbRan) (paid said paid′ said′ : List ℕ)
+    → Ran book kinds coefficients payouts numbers r paid said → Ran book kinds coefficients payouts numbers s paid′ said′
     → (r ≡ s) × ((paid ≡ paid′) × (said ≡ said′))
-one-run answer payouts numbers r s paid paid′ said said′ e p n e′ p′ n′ =
-    let same = one-answer e e′ in
-    (same, (p ∙ ((λ i. payouts (same i .served)) ∙ sym p′), n ∙ ((λ i. numbers (same i .served)) ∙ sym n′)))
+one-run book kinds coefficients payouts numbers r s paid said paid′ said′ p q =
+    let same = one-answer (p .answer) (q .answer) in
+    let payouts-same = ap (λ (a : MkbRan). payoutsAfter (bookFrom book) kinds coefficients payouts (a .served)) same in
+    let numbers-same = ap (λ (a : MkbRan). numbersAfter (bookFrom book) kinds coefficients numbers (a .served)) same in
+    (same, (p .pays ∙ (payouts-same ∙ sym (q .pays)), p .numbered ∙ (numbers-same ∙ sym (q .numbered))))
