@@ -6,7 +6,8 @@ use Prim.Native.Nat.{ℕ}
 use lib.IntN.{ℤ}
 use lib.ListN.{length}
 use Rattle.rounding.proofs.Unique.{one-answer}
-use Rattle.sharing.specs.Shared.{sharedSaid, outAfter}
+use Rattle.weights.specs.Lent.{outAfter}
+use Rattle.sharing.specs.Shared.{sharedSaid}
 use Rattle.flat.specs.declared.MkbAmount.{MkbAmount}
 use Rattle.bulk.specs.Runs.{runSaid, payoutsAfter, numbersAfter}
 use Rattle.flat.specs.declared.MkbBook.{MkbBook}
