@@ -11,6 +11,9 @@ ghost use Rattle.whole.specs.Whole.{signedOf};
 ghost use Rattle.weights.specs.Weights.{Allowed};
 ghost use Rattle.remainder.specs.Rule.{roundedDown, remainders, unitsLeft, largest, serve, handOut, sharesOf};
 
+// So many weights are few.
+const FEW: usize = 8;
+
 // The shares rounded down and the remainders; answers the units left. Of m, whole x total + part, a weight has whole x weight and its share
 // of the part, whose product fits whatever m is.
 fn divide(m: u64, weights: &[u32], shares: &mut [u64], rests: &mut [u64]) -> u64
@@ -117,8 +120,28 @@ fn spread_by(
     write(negative, shares, out);
 }
 
-// The shares of m by the weights, with their sign, to the first places of the output; the others stay.
-pub(crate) fn spread(negative: bool, m: u64, weights: &[u32], out: &mut [i64])
+// With room for the shares and the remainders of few weights: a short list does not wait until 64 places are cleared.
+fn spread_few(negative: bool, m: u64, weights: &[u32], out: &mut [i64])
+    requires { ⌜ m < 2 ^ 63 ⌝ }
+    requires { ⌜ length (now weights) ≤ 8 ⌝ }
+    requires { ⌜ Allowed (now weights) (length (now out)) ⌝ }
+    ensures { λ r. ⌜ now (out .exit) ≡ map (signedOf negative) (sharesOf m (now (weights .entry))) ++ drop (length (now (weights .entry))) (now (out .entry)) ⌝ }
+{
+    let mut shares: [u64; FEW] = [0; FEW];
+    let mut rests: [u64; FEW] = [0; FEW];
+    let count = weights.len();
+    spread_by(
+        negative,
+        m,
+        weights,
+        &mut shares[..count],
+        &mut rests[..count],
+        &mut out[..count],
+    );
+}
+
+// With room for those of as many as a list has.
+fn spread_many(negative: bool, m: u64, weights: &[u32], out: &mut [i64])
     requires { ⌜ m < 2 ^ 63 ⌝ }
     requires { ⌜ Allowed (now weights) (length (now out)) ⌝ }
     ensures { λ r. ⌜ now (out .exit) ≡ map (signedOf negative) (sharesOf m (now (weights .entry))) ++ drop (length (now (weights .entry))) (now (out .entry)) ⌝ }
@@ -134,4 +157,17 @@ pub(crate) fn spread(negative: bool, m: u64, weights: &[u32], out: &mut [i64])
         &mut rests[..count],
         &mut out[..count],
     );
+}
+
+// The shares of m by the weights, with their sign, to the first places of the output; the others stay.
+pub(crate) fn spread(negative: bool, m: u64, weights: &[u32], out: &mut [i64])
+    requires { ⌜ m < 2 ^ 63 ⌝ }
+    requires { ⌜ Allowed (now weights) (length (now out)) ⌝ }
+    ensures { λ r. ⌜ now (out .exit) ≡ map (signedOf negative) (sharesOf m (now (weights .entry))) ++ drop (length (now (weights .entry))) (now (out .entry)) ⌝ }
+{
+    if weights.len() <= FEW {
+        spread_few(negative, m, weights, out);
+    } else {
+        spread_many(negative, m, weights, out);
+    }
 }

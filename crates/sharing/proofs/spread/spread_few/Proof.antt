@@ -1,4 +1,4 @@
--- As many places of the two local arrays and of the output are lent as there are weights, of which there are at most 64. Assumes nothing.
+-- As many places of the two local arrays and of the output are lent as there are weights, of which there are at most 8. Assumes nothing.
 use mathlib.Core.Path.{sym, ap}
 use mathlib.Core.List.{List, _++_}
 use native.Mathlib.Omega.{arith}
@@ -7,8 +7,8 @@ use lib.IntN.{ℤ}
 use lib.ListN.{length, drop}
 use lib.Seq.{length-take-le}
 use Rattle.weights.proofs.Passed.{just-enough}
-use Rattle.sharing.proofs.spread.spread.Statement.{statement}
-use Rattle.sharing.proofs.spread.spread.Tie as tie
+use Rattle.sharing.proofs.spread.spread_few.Statement.{statement}
+use Rattle.sharing.proofs.spread.spread_few.Tie as tie
 
 array-borrow-prefix-shares : tie.Need-array-borrow-prefix-shares
 array-borrow-prefix-shares c = search needs
@@ -33,7 +33,7 @@ spread-by-requires c κs =
     let start = c .before .before .before .before in (
       start .pre .0,
       (
-        just-enough (start .args .weights .now) (length (start .args .out .now)) _ (start .pre .1) (length-take-le _ _ (omega arith)),
+        just-enough (start .args .weights .now) (length (start .args .out .now)) _ (start .pre .1 .1) (length-take-le _ _ (omega arith)),
         (length-take-le _ _ (omega arith), (length-take-le _ _ (omega arith), length-take-le _ _ (omega arith))),
       ),
     )
@@ -46,8 +46,8 @@ returns c =
     let a = c .before .before .before .before .before .before .before .before .args in
     ap (λ (front : List ℤ). front ++ drop (length (a .weights .now)) (a .out .now)) (c .before .before .before .spread-by .ensures)
 
-pub spread-spec : {M : Type 1} → statement M
-spread-spec =
+pub spread-few-spec : {M : Type 1} → statement M
+spread-few-spec =
     tie.close
     (tie.spec
     array-borrow-prefix-shares
