@@ -4,7 +4,6 @@ use mathlib.Core.Path.{_≡_, refl, sym, _∙_, ap, ap₂}
 use mathlib.Core.Bool.{Bool, true, false}
 use mathlib.Core.List.{List, [], _∷_}
 use Prim.Native.Nat.{ℕ, _+_, _*_, _-_, _<_, _≤_}
-use native.Mathlib.Nat.{mul-le-mul}
 use native.Mathlib.Omega.{arith}
 use borrow.Author.Tests.{lt-ltb, le-ltb, ltb-false}
 use lib.IntN.{ℤ, pos, _+ℤ_, _-ℤ_, _*ℤ_, negℤ-+ℤ, +ℤ-negℤ-cancel}
@@ -20,6 +19,8 @@ use Rattle.rounding.specs.declared.Choice.{Choice}
 use Rattle.rounding.specs.declared.Choice.the-variants.{Chosen, Refused}
 use Rattle.rounding.specs.Modes.{ruleOf}
 use Rattle.rounding.specs.Leaf.{rounded, roundedMagnitude}
+use Rattle.rounding.specs.Product.{roundedProduct}
+use Rattle.rounding.proofs.Capped.{product-is}
 use Rattle.rounding.proofs.Value.{by-magnitude}
 use Rattle.amount.specs.declared.Amount.{Amount}
 use Rattle.amount.specs.Amounts.{largest, overL}
@@ -133,8 +134,11 @@ module _ {a : Amount} {rate mode : ℕ} {sign : Bool} {m : ℕ} {rule : Rule} (c
   pub limits : (m ≤ largest) × (rate ≤ million)
   limits = within a rate mode m (call .magnitudes) rule has-rule
 
-  pub product : m * rate ≤ largest * million
-  product = mul-le-mul (limits .0) (limits .1)
+  -- what the leaf gives: the tax is at most the amount, so no cap is met
+  pub leaf : (d : ℕ) → 0 < d → d ≤ 2 * million → rate ≤ d → roundedProduct rule sign m rate d ≡ roundedMagnitude rule sign (m * rate) d
+  leaf d some few covers =
+      product-is rule sign m rate d (omega (arith, limits .0)) (omega arith) some (omega arith)
+      (omega (arith, limits .0, at-most-all rule sign m rate d some covers))
 
   -- from net, where t is the tax's magnitude
   module _ (t : ℕ) (tax : t ≡ roundedMagnitude rule sign (m * rate) million) where

@@ -8,7 +8,7 @@ use refusal::Checked;
 use refusal::Refusal;
 use refusal::check_rate;
 use rounding::Choice;
-use rounding::round;
+use rounding::round_product;
 use rounding::rule_of;
 use whole::is_negative;
 use whole::magnitude;
@@ -85,7 +85,7 @@ pub fn tax_from_net(net: Amount, rate: u32, mode: u8) -> Taxed
     match rule_for(net.scale, m, net.currency, rate, mode) {
         Choice::Refused(refusal) => Taxed::Refused(refusal),
         Choice::Chosen(rule) => {
-            let tax = round(rule, negative, m * rate as u64, MILLION);
+            let tax = round_product(rule, negative, m, rate as u64, MILLION);
             split_of(net, negative, m, tax)
         }
     }
@@ -100,7 +100,7 @@ pub fn tax_from_gross(gross: Amount, rate: u32, mode: u8) -> Taxed
     match rule_for(gross.scale, m, gross.currency, rate, mode) {
         Choice::Refused(refusal) => Taxed::Refused(refusal),
         Choice::Chosen(rule) => {
-            let tax = round(rule, negative, m * rate as u64, MILLION + rate as u64);
+            let tax = round_product(rule, negative, m, rate as u64, MILLION + rate as u64);
             split_of(gross, negative, m - tax, tax)
         }
     }

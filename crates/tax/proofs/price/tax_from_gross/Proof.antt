@@ -1,14 +1,16 @@
--- A refused rule is the call's refusal. With a rule, the amount is within L and the rate within the million, so the product fits, and
--- the tax is at most the gross, so the net is what is left. Assumes nothing.
+-- A refused rule is the call's refusal. With a rule, the amount is within L and the rate within the million, so the
+-- leaf gives the tax, which is at most the gross, so the net is what is left. Assumes nothing.
 use mathlib.Core.Path.{_≡_, sym, _∙_, ap}
+use Prim.Native.Nat.{_+_, _*_}
 use native.Mathlib.Omega.{arith}
 use borrow.Author.Needs.{needs}
 use mir.Syntax.{w64}
 use mir.Val.{SFits}
 use mir.ValLaws.{toZ-ofZ}
 use Rattle.whole.specs.Whole.{negative, magnitudeOf}
-use Rattle.tax.specs.Tax.{fromGross}
-use Rattle.tax.proofs.Value.{said-refused, Call, product, limits, gross-tax, gross-limits, gross-said}
+use Rattle.rounding.specs.Leaf.{roundedMagnitude}
+use Rattle.tax.specs.Tax.{million, fromGross}
+use Rattle.tax.proofs.Value.{said-refused, Call, limits, leaf, gross-tax, gross-limits, gross-said}
 use Rattle.tax.proofs.price.tax_from_gross.Statement.{statement}
 use Rattle.tax.proofs.price.tax_from_gross.Tie as tie
 
@@ -52,20 +54,28 @@ call c =
       chosen = c .before .rule .given .1;
     }
 
-mul-round : tie.Need-mul-round
-mul-round c = omega (arith, product (call c))
+add-round-product : tie.Need-add-round-product
+add-round-product c = omega (arith, limits (call c) .1)
 
-add-round : tie.Need-add-round
-add-round c = omega (arith, limits (call c) .1)
+round-product-requires : tie.Need-round-product-requires
+round-product-requires c κs = search needs
 
-round-requires : tie.Need-round-requires
-round-requires c κs = search needs
+-- the tax's magnitude
+taxed : (c : tie.After-round-product)
+    → let rate = c .before .before .before .before .before .before .before .before .before .args .rate in
+    c .round-product .result
+    ≡ roundedMagnitude (c .before .before .rule .given .0 .0) (c .before .before .before .before .before .before .before .is-negative .result)
+    (c .before .before .before .before .before .magnitude .result * rate) (million + rate)
+taxed c =
+    let k = call (c .before) in
+    let rate = c .before .before .before .before .before .before .before .before .before .args .rate in
+    c .round-product .ensures ∙ leaf k (million + rate) (omega arith) (omega (arith, limits k .1)) (omega arith)
 
 sub-split-of : tie.Need-sub-split-of
-sub-split-of c = omega (arith, gross-tax (call (c .before)) (c .round .result) (c .round .ensures))
+sub-split-of c = omega (arith, gross-tax (call (c .before)) (c .round-product .result) (taxed c))
 
 split-of-requires : tie.Need-split-of-requires
-split-of-requires c κs = gross-limits (call (c .before)) (c .round .result) (c .round .ensures)
+split-of-requires c κs = gross-limits (call (c .before)) (c .round-product .result) (taxed c)
 
 returns : tie.Need-returns
 returns c =
@@ -76,7 +86,7 @@ returns c =
     (s .rule-for .result) (c .before .refusal .given .0 .0) (s .rule-for .ensures) (c .before .refusal .given .1))
 
 returns-2 : tie.Need-returns-2
-returns-2 c = c .split-of .ensures ∙ gross-said (call (c .before .before)) (c .before .round .result) (c .before .round .ensures)
+returns-2 c = c .split-of .ensures ∙ gross-said (call (c .before .before)) (c .before .round-product .result) (taxed (c .before))
 
 pub tax-from-gross-spec : {M : Type 1} → statement M
 tax-from-gross-spec =
@@ -87,9 +97,8 @@ tax-from-gross-spec =
     rule-for-requires
     enum-known-refusal
     enum-known-rule
-    mul-round
-    add-round
-    round-requires
+    add-round-product
+    round-product-requires
     sub-split-of
     split-of-requires
     returns

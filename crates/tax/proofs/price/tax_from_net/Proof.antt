@@ -1,14 +1,16 @@
--- A refused rule is the call's refusal. With a rule, the amount is within L and the rate within the million, so the product fits and
--- the tax is at most the net. Assumes nothing.
+-- A refused rule is the call's refusal. With a rule, the amount is within L and the rate within the million, so the
+-- leaf gives the tax, which is at most the net. Assumes nothing.
 use mathlib.Core.Path.{_≡_, sym, _∙_, ap}
+use Prim.Native.Nat.{_*_}
 use native.Mathlib.Omega.{arith}
 use borrow.Author.Needs.{needs}
 use mir.Syntax.{w64}
 use mir.Val.{SFits}
 use mir.ValLaws.{toZ-ofZ}
 use Rattle.whole.specs.Whole.{negative, magnitudeOf}
-use Rattle.tax.specs.Tax.{fromNet}
-use Rattle.tax.proofs.Value.{said-refused, Call, product, net-limits, net-said}
+use Rattle.rounding.specs.Leaf.{roundedMagnitude}
+use Rattle.tax.specs.Tax.{million, fromNet}
+use Rattle.tax.proofs.Value.{said-refused, Call, limits, leaf, net-limits, net-said}
 use Rattle.tax.proofs.price.tax_from_net.Statement.{statement}
 use Rattle.tax.proofs.price.tax_from_net.Tie as tie
 
@@ -52,14 +54,18 @@ call c =
       chosen = c .before .rule .given .1;
     }
 
-mul-round : tie.Need-mul-round
-mul-round c = omega (arith, product (call c))
+round-product-requires : tie.Need-round-product-requires
+round-product-requires c κs = search needs
 
-round-requires : tie.Need-round-requires
-round-requires c κs = search needs
+-- the tax's magnitude
+taxed : (c : tie.After-round-product)
+    → c .round-product .result
+    ≡ roundedMagnitude (c .before .before .rule .given .0 .0) (c .before .before .before .before .before .before .before .is-negative .result)
+    (c .before .before .before .before .before .magnitude .result * c .before .before .before .before .before .before .before .before .before .args .rate) million
+taxed c = let k = call (c .before) in c .round-product .ensures ∙ leaf k million (omega arith) (omega arith) (limits k .1)
 
 split-of-requires : tie.Need-split-of-requires
-split-of-requires c κs = net-limits (call (c .before)) (c .round .result) (c .round .ensures)
+split-of-requires c κs = net-limits (call (c .before)) (c .round-product .result) (taxed c)
 
 returns : tie.Need-returns
 returns c =
@@ -70,7 +76,7 @@ returns c =
     (s .rule-for .result) (c .before .refusal .given .0 .0) (s .rule-for .ensures) (c .before .refusal .given .1))
 
 returns-2 : tie.Need-returns-2
-returns-2 c = c .split-of .ensures ∙ net-said (call (c .before .before)) (c .before .round .result) (c .before .round .ensures)
+returns-2 c = c .split-of .ensures ∙ net-said (call (c .before .before)) (c .before .round-product .result) (taxed (c .before))
 
 pub tax-from-net-spec : {M : Type 1} → statement M
 tax-from-net-spec =
@@ -81,8 +87,7 @@ tax-from-net-spec =
     rule-for-requires
     enum-known-refusal
     enum-known-rule
-    mul-round
-    round-requires
+    round-product-requires
     split-of-requires
     returns
     returns-2)
