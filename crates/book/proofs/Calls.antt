@@ -3,31 +3,29 @@
 -- rows then say the rest. Assumes nothing.
 use mathlib.Core.Path.{_≡_, refl, sym, ap, _∙_}
 use mathlib.Core.Bool.{true, false}
-use mathlib.Core.List.{List, [], _∷_, _++_}
+use mathlib.Core.List.{List, [], _∷_}
 use Prim.Native.Nat.{ℕ, _+_, _-_, _≤_}
 use native.Mathlib.Omega.{arith}
 use borrow.Author.Tests.{ltb-false}
-use lib.Dec.{ltb}
 use lib.ListN.{getD, length, length-append, length-replicate}
 use Rattle.refusal.specs.Rows.{Said, gives, refuses, Row, row, firstRow, meansOutcome}
 use Rattle.refusal.specs.declared.Checked.{Checked}
 use Rattle.refusal.specs.declared.Checked.the-variants.{Passed}
-use Rattle.refusal.specs.declared.Refusal.the-variants.{Unknown, Limit, Refund}
 use Rattle.refusal.proofs.Check.{Clear}
 use Rattle.whole.specs.Sums.{sumOf}
 use Rattle.whole.proofs.Sums.{getD-noughts, sum-noughts}
 use Rattle.amount.specs.declared.Amount.{Amount}
 use Rattle.currency.specs.declared.Currency.{Currency}
-use Rattle.amount.specs.Amounts.{largest, overL}
-use Rattle.currency.specs.Table.{unknown}
+use Rattle.amount.specs.Amounts.{largest}
 use Rattle.units.specs.Rule.{totals}
 use Rattle.units.proofs.Added.{sum-totals, never-fall}
 use Rattle.book.specs.declared.Book.{Book}
 use Rattle.book.specs.declared.Moved.{Moved}
 use Rattle.book.specs.declared.Opened.{Opened}
-use Rattle.book.specs.Books.{partners, zeros, weightRows, givenRows}
-use Rattle.book.specs.Moves.{netOf, unitsOf, moveRows, postSaid, refundSaid, nextBook, lessOf, paidOf, takenOf, Answers, Posts, Refunds, Opens, openSaid, openBook}
-use Rattle.book.proofs.Lists.{less-place, less-sum, padded-sum}
+use Rattle.book.specs.Books.{partners, zeros, weightRows, withBook}
+use Rattle.book.specs.Moves.{netOf, unitsOf, moveRows, postRows, refundRows, postSaid, refundSaid, nextBook, lessOf, paidOf, takenOf, Answers, Posts, Refunds, Opens, openRows, openSaid, openBook}
+use Rattle.running.proofs.Places.{less-place, less-sum}
+use Rattle.book.proofs.Lists.{sum-padded}
 
 -- a value is given where no row holds
 pub no-row : {A : Type 0} (rows : List Row) (v w : A) → firstRow rows (gives v) ≡ gives w → Clear rows × (v ≡ w)
@@ -38,15 +36,15 @@ no-row (row r false ∷ rows) v w e = let c = no-row rows v w e in ((refl, c .0)
 module _ (b : Book) (a : Amount) (n : ℕ) where
   -- an accepted posting of A moves N to N + A
   pub posting-moves : postSaid b a ≡ gives n → (1 ≤ sumOf (b .weights)) × (netOf b + unitsOf a ≡ n) × (n ≤ largest)
-  unfolding postSaid moveRows weightRows givenRows
+  unfolding postSaid moveRows withBook weightRows
   posting-moves e =
-      let c = no-row (moveRows b a ++ (row Limit (overL (netOf b + unitsOf a)) ∷ [])) (netOf b + unitsOf a) n e in omega (arith, ltb-false)
+      let c = no-row (postRows b a) (netOf b + unitsOf a) n e in omega (arith, ltb-false)
 
   -- an accepted refund of A moves N to N - A
   pub refund-moves : refundSaid b a ≡ gives n → (1 ≤ sumOf (b .weights)) × (n + unitsOf a ≡ netOf b) × (n ≤ largest)
-  unfolding refundSaid moveRows weightRows givenRows
+  unfolding refundSaid moveRows withBook weightRows
   refund-moves e =
-      let c = no-row (moveRows b a ++ (row Refund (ltb (netOf b) (unitsOf a)) ∷ [])) (netOf b - unitsOf a) n e in omega (arith, ltb-false)
+      let c = no-row (refundRows b a) (netOf b - unitsOf a) n e in omega (arith, ltb-false)
 
 -- the payouts are, place by place, the units between two net totals, and add to the distance
 pub record Between (ws : List ℕ) (low high : ℕ) (payouts : List ℕ) : Type 0 where
@@ -120,10 +118,10 @@ pub record Fresh (opened : Book) : Type 0 where
 pub opening : (c : Currency) (ws : List ℕ) (opened : Book) → openSaid c ws ≡ gives opened → Fresh opened
 unfolding openSaid weightRows openBook nextBook
 opening c ws opened e =
-    let k = no-row (row Unknown (unknown c) ∷ weightRows (length ws) ws) (openBook c ws) opened e in
+    let k = no-row (openRows c ws) (openBook c ws) opened e in
     rw (← k .1) (record {
       sixteen = simp (length-append, length-replicate) (omega (arith, ltb-false));
-      some = rw padded-sum (omega (arith, ltb-false));
+      some = rw sum-padded (omega (arith, ltb-false));
       empty = refl;
       stands = record { same = refl; limit = omega arith };
     })

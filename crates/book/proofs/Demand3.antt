@@ -22,10 +22,11 @@ use Rattle.book.specs.declared.Book.{Book}
 use Rattle.book.specs.declared.Moved.{Moved}
 use Rattle.book.specs.Books.{partners, zeros}
 use Rattle.book.specs.Moves.{netOf, postSaid, refundSaid, nextBook, paidOf, takenOf, Posts, Refunds, openSaid}
-use Rattle.book.specs.History.{plusOf, History, refunded, running, Kept}
+use Rattle.book.specs.History.{plusOf, History, refunded, postings, refunds, running, Kept}
 use Rattle.book.proofs.Lists.{plus-place}
 use Rattle.book.proofs.Calls.{Fresh, opening}
 use Rattle.book.proofs.Histories.{After, after}
+use Rattle.book.proofs.NetIs.{net-of-history}
 
 -- a call changes nothing of a book but its net total, which stays from 0 to L
 pub record Contract (opened b : Book) : Type 0 where
@@ -69,6 +70,10 @@ module _ (c : Currency) (ws : List ℕ) (opened : Book) (accepted : openSaid c w
           added = ends .added;
           byRule = by-rule;
         })
+
+    -- N is the accepted postings less the accepted refunds
+    pub net-is : netOf b + refunds h ≡ postings h
+    net-is = net-of-history fresh h
 
     -- the running totals of the sixteen places add to N
     pub add-to-net : sumTo (running paid taken) partners ≡ netOf b

@@ -1,13 +1,16 @@
--- The lists of payouts, place by place: at each place `plusOf` adds and `lessOf` takes away, and so do their sums, where nothing is
--- taken away that is not there. Each by induction on the list. Assumes nothing.
-use mathlib.Core.Path.{_≡_, refl}
+-- Lists of payouts and of weights: at each place `plusOf` adds, and so do the sums; noughts behind a list of weights change neither its sum
+-- nor what stands past it. Each by induction on the list. Assumes nothing.
+use mathlib.Core.Path.{_≡_, refl, sym, ap, _∙_}
 use mathlib.Core.List.{List, [], _∷_, _++_}
 use Prim.Native.Nat.{ℕ, zero, suc, _+_, _-_, _≤_}
+use native.Mathlib.Nat.{add-zero}
 use native.Mathlib.Omega.{arith}
-use lib.ListN.{getD, replicate}
+use lib.ListN.{length, getD, drop, replicate, length-append, length-replicate, List·getD-append}
+use lib.Seq.{drop-append-seam, getD-append-add}
 use Rattle.whole.specs.Sums.{sumOf}
-use Rattle.whole.proofs.Sums.{sum-noughts}
-use Rattle.book.specs.Moves.{lessOf}
+use Rattle.whole.specs.Lists.{filled}
+use Rattle.whole.proofs.Sums.{sum-noughts, getD-noughts}
+use Rattle.whole.proofs.Lists.{filled-is}
 use Rattle.book.specs.History.{plusOf}
 
 pub plus-place : (xs ys : List ℕ) (i : ℕ) → getD (plusOf xs ys) i 0 ≡ getD xs i 0 + getD ys i 0
@@ -23,22 +26,29 @@ plus-sum [] ys = omega arith
 plus-sum (x ∷ xs) [] = omega arith
 plus-sum (x ∷ xs) (y ∷ ys) = omega (arith, plus-sum xs ys)
 
-pub less-place : (xs ys : List ℕ) (i : ℕ) → getD (lessOf xs ys) i 0 ≡ getD xs i 0 - getD ys i 0
-unfolding lessOf
-less-place [] ys i = omega arith
-less-place (x ∷ xs) [] i = omega arith
-less-place (x ∷ xs) (y ∷ ys) zero = refl
-less-place (x ∷ xs) (y ∷ ys) (suc i) = less-place xs ys i
-
-pub less-sum : (xs ys : List ℕ) → ((i : ℕ) → getD ys i 0 ≤ getD xs i 0) → sumOf (lessOf xs ys) + sumOf ys ≡ sumOf xs
-unfolding lessOf sumOf
-less-sum [] [] h = refl
-less-sum [] (y ∷ ys) h = omega (arith, h 0, less-sum [] ys (λ i. h (suc i)))
-less-sum (x ∷ xs) [] h = omega arith
-less-sum (x ∷ xs) (y ∷ ys) h = omega (arith, h 0, less-sum xs ys (λ i. h (suc i)))
-
--- zeros behind a list add nothing
-pub padded-sum : (xs : List ℕ) (n : ℕ) → sumOf (xs ++ replicate n 0) ≡ sumOf xs
+sum-append : (l r : List ℕ) → sumOf (l ++ r) ≡ sumOf l + sumOf r
 unfolding sumOf
-padded-sum [] n = sum-noughts n
-padded-sum (x ∷ xs) n = omega (arith, padded-sum xs n)
+sum-append [] r = omega arith
+sum-append (x ∷ l) r = omega (arith, sum-append l r)
+
+-- noughts behind a list
+module _ (l : List ℕ) (n : ℕ) where
+  pub sum-padded : sumOf (l ++ replicate n 0) ≡ sumOf l
+  sum-padded = rw (sum-append, sum-noughts) (add-zero (sumOf l))
+
+  pub sum-padding : sumOf (drop (length l) (l ++ replicate n 0)) ≡ 0
+  sum-padding = rw drop-append-seam (sum-noughts n)
+
+-- a list fills the first of n noughts
+pub padded : (l : List ℕ) (n : ℕ) → length l ≤ n → filled 0 (λ k. getD l k 0) (length l) (replicate n 0) ≡ l ++ replicate (n - length l) 0
+padded l n h =
+    filled-is 0 (λ k. getD l k 0) (replicate n 0) 0 (length l) (l ++ replicate (n - length l) 0) (rw (length-append, length-replicate, length-replicate) (omega arith))
+    (λ i b c. absurd (omega arith))
+    (λ i b c. let e : 0 + i ≡ i = omega arith in rw e (sym (List·getD-append l (replicate (n - length l) 0) 0 i b)))
+    (λ i b c. getD-noughts n i ∙ sym (behind i (omega arith)))
+  where
+    behind : (i : ℕ) → length l ≤ i → getD (l ++ replicate (n - length l) 0) i 0 ≡ 0
+    behind i b =
+        let e : i ≡ length l + (i - length l) = omega arith in
+        ap (λ (k : ℕ). getD (l ++ replicate (n - length l) 0) k 0) e ∙ getD-append-add l (replicate (n - length l) 0) (i - length l) 0
+        ∙ getD-noughts (n - length l) (i - length l)

@@ -14,7 +14,7 @@ use Rattle.book.specs.declared.Book.{Book}
 use Rattle.book.specs.declared.Opened.{Opened}
 use Rattle.book.specs.declared.Moved.{Moved}
 use Rattle.book.specs.declared.Totals.{Totals}
-use Rattle.book.specs.Moves.{Answers, Posts, Refunds, Opens, Runs}
+use Rattle.book.specs.Moves.{Answers, Posts, Refunds, Opens, Tallies}
 
 same-answer : (b : Book) (said : Said ℕ) (payouts : List ℕ) (r s : Moved) → Answers b said payouts r → Answers b said payouts s → r ≡ s
 same-answer b said payouts r s p q =
@@ -22,18 +22,18 @@ same-answer b said payouts r s p q =
     let book : r .book ≡ s .book = p .book ∙ sym (q .book) in
     let paid : r .payouts ≡ s .payouts = p .paid ∙ sym (q .paid) in λ i. record { outcome = outcome i; book = book i; payouts = paid i }
 
-pub one-posting : (b : Book) (a : Amount) (r s : Moved) → Posts b a r → Posts b a s → r ≡ s
-one-posting b a = same-answer b _ _
+pub one-post : (b : Book) (a : Amount) (r s : Moved) → Posts b a r → Posts b a s → r ≡ s
+one-post b a = same-answer b _ _
 
 pub one-refund : (b : Book) (a : Amount) (r s : Moved) → Refunds b a r → Refunds b a s → r ≡ s
 one-refund b a = same-answer b _ _
 
-pub one-opening : (c : Currency) (ws : List ℕ) (r s : Opened) → Opens c ws r → Opens c ws s → r ≡ s
-one-opening c ws r s p q =
+pub one-open : (c : Currency) (ws : List ℕ) (r s : Opened) → Opens c ws r → Opens c ws s → r ≡ s
+one-open c ws r s p q =
     let outcome : r .outcome ≡ s .outcome = same-outcome (r .outcome) (s .outcome) _ _ (p .outcome ∙ sym (q .outcome)) in
     let book : r .book ≡ s .book = p .book ∙ sym (q .book) in λ i. record { outcome = outcome i; book = book i }
 
-pub one-totals : (b : Book) (r s : Totals) → Runs b r → Runs b s → r ≡ s
+pub one-totals : (b : Book) (r s : Totals) → Tallies b r → Tallies b s → r ≡ s
 one-totals b r s p q =
     let outcome : r .outcome ≡ s .outcome = same-outcome (r .outcome) (s .outcome) _ _ (p .outcome ∙ sym (q .outcome)) in
     let totals : r .totals ≡ s .totals = p .totals ∙ sym (q .totals) in λ i. record { outcome = outcome i; totals = totals i }

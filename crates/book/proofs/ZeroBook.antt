@@ -1,7 +1,7 @@
 -- A refused opening hands back the book whose every field is 0, and any later call with it is refused with 9 or a lower number: its count
 -- is not 1 to 16, which is a row of number 9, and no row in front of that has a greater number. Assumes nothing.
 use mathlib.Core.Path.{_≡_, refl, ap, _∙_}
-use mathlib.Core.Bool.{true, false}
+use mathlib.Core.Bool.{Bool, true, false}
 use mathlib.Core.List.{List, [], _∷_, _++_}
 use Prim.Native.Nat.{ℕ, _≤_}
 use native.Mathlib.Omega.{arith}
@@ -13,9 +13,9 @@ use Rattle.refusal.specs.declared.Refusal.the-variants.{Weights}
 use Rattle.amount.specs.declared.Amount.{Amount}
 use Rattle.currency.specs.declared.Currency.{Currency}
 use Rattle.book.specs.declared.Opened.{Opened}
-use Rattle.book.specs.Books.{weightRows, givenRows}
-use Rattle.book.specs.Moves.{unitsOf, moveRows, postSaid, refundSaid, totalsSaid, zeroBook, Opens, openSaid, openedBook}
-use Rattle.book.proofs.Rows.{postRows, refundRows}
+use Rattle.book.specs.Books.{weightRows, withBook, listedRows}
+use Rattle.book.specs.Checks.{givenRows}
+use Rattle.book.specs.Moves.{unitsOf, moveRows, postRows, refundRows, postSaid, refundSaid, totalsSaid, zeroBook, Opens, openSaid, openedBook}
 
 -- what a call says is a refusal of number m or a lower one
 abbrev pub RefusedBy : {A : Type 0} → ℕ → Said A → Type 0
@@ -35,16 +35,21 @@ stopped value (row s false ∷ front) rows r up = stopped value front rows r (up
 
 module _ (a : Amount) where
   pub zero-posting : RefusedBy 9 (postSaid zeroBook a)
-  unfolding postSaid moveRows givenRows weightRows zeroBook
+  unfolding postSaid moveRows withBook givenRows weightRows zeroBook
   zero-posting = stopped _ (givenRows (a .scale) (unitsOf a) (a .currency) 0 (record { 0 = 0 })) (drop 8 (postRows zeroBook a)) Weights (omega arith)
 
   pub zero-refund : RefusedBy 9 (refundSaid zeroBook a)
-  unfolding refundSaid moveRows givenRows weightRows zeroBook
+  unfolding refundSaid moveRows withBook givenRows weightRows zeroBook
   zero-refund = stopped _ (givenRows (a .scale) (unitsOf a) (a .currency) 0 (record { 0 = 0 })) (drop 8 (refundRows zeroBook a)) Weights (omega arith)
 
 pub zero-totals : totalsSaid zeroBook ≡ refuses 9 0
-unfolding totalsSaid weightRows zeroBook
+unfolding totalsSaid withBook weightRows zeroBook
 zero-totals = refl
+
+-- and so is every call that takes it with lists, a run of calls too
+pub zero-listed : {A : Type 0} (value : Said A) (broken short : Bool) → firstRow (listedRows zeroBook broken short) value ≡ refuses 9 0
+unfolding listedRows withBook weightRows zeroBook
+zero-listed value broken short = refl
 
 -- it is what a refused opening hands back
 pub refused-opening : (c : Currency) (ws : List ℕ) (r : Opened) (n k : ℕ) → openSaid c ws ≡ refuses n k → Opens c ws r → r .book ≡ zeroBook

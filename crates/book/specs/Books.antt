@@ -1,28 +1,28 @@
--- Document 01, "The share book": a book, its limits, and the rows of the table of refusals that a given book can hold.
--- Cited by the promises of every call on a book. Assumes nothing.
+-- Document 01, "The share book": a given book, its limits, and the rows of the table of refusals that it can hold, by number. Every call
+-- on a book has them, in the table's order among its own. Cited by the promises of every call on a book. Assumes nothing.
 use mathlib.Core.Bool.{Bool}
-use mathlib.Core.List.{List, [], _∷_}
+use mathlib.Core.List.{List, [], _∷_, _++_}
 use Prim.Native.Nat.{ℕ}
 use lib.Dec.{ltb}
-use lib.ListN.{drop, replicate}
+use lib.IntN.{ℤ}
+use lib.ListN.{drop}
 use Rattle.refusal.specs.Rows.{Row, row}
-use Rattle.refusal.specs.declared.Refusal.the-variants.{Scale, Magnitude, Unknown, Differ, Weights, Negative}
+use Rattle.refusal.specs.declared.Refusal.the-variants.{Magnitude, Unknown, Weights, Negative, Room}
 use Rattle.whole.specs.Sums.{sumOf}
-use Rattle.currency.specs.declared.Currency.{Currency}
-use Rattle.currency.specs.Table.{unknown, differ}
-use Rattle.currency.specs.Digits.{notOwnDigits}
-use Rattle.amount.specs.Amounts.{badScale, overL}
-
+use Rattle.whole.specs.Whole.{negative, magnitudeOf}
+use Rattle.amount.specs.Amounts.{overL}
+use Rattle.currency.specs.Table.{unknown}
+use Rattle.book.specs.declared.Book.{Book}
 -- "a count of 1 to 16, sixteen weights (those past the count are 0) with sum W from 1 to 10,000"
-abbrev pub partners : ℕ
-partners = 16
+pub use Rattle.running.specs.Limits.{partners, weightSum, zeros}
 
-abbrev pub weightSum : ℕ
-weightSum = 10000
+-- the net total N as a number: it isn't negative where a call is accepted
+abbrev pub netOf : Book → ℕ
+netOf b = magnitudeOf (b .net)
 
--- sixteen zeros
-abbrev pub zeros : List ℕ
-zeros = replicate partners 0
+-- the same book at another net total
+abbrev pub bookAt : Book → ℤ → Book
+bookAt b net = record { currency = b .currency; count = b .count; weights = b .weights; net = net }
 
 -- row 9 at a count and weights
 unfoldable pub weightRows : ℕ → List ℕ → List Row
@@ -34,18 +34,31 @@ weightRows count ws =
     ∷ row Weights (ltb weightSum (sumOf ws))
     ∷ []
 
--- rows 2 to 5 at an amount (its scale, magnitude and currency) and at a given book (its net total's magnitude and its currency)
-unfoldable pub givenRows : (scale m : ℕ) → Currency → (n : ℕ) → (own : Currency) → List Row
-givenRows scale m currency n own =
-    row Scale (badScale scale)
-    ∷ row Scale (notOwnDigits currency scale)
-    ∷ row Magnitude (overL m)
-    ∷ row Magnitude (overL n)
-    ∷ row Unknown (unknown currency)
-    ∷ row Unknown (unknown own)
-    ∷ row Differ (differ currency own)
-    ∷ []
+-- the rows of a given book: 3, "a given book's net total has a magnitude over L"
+abbrev pub rows3 : Book → List Row
+rows3 b = row Magnitude (overL (netOf b)) ∷ []
 
--- row 10 at an amount and at a given book
-abbrev pub signRows : Bool → Bool → List Row
-signRows amount net = row Negative amount ∷ row Negative net ∷ []
+-- 4, "a currency number is over 20"
+abbrev pub rows4 : Book → List Row
+rows4 b = row Unknown (unknown (b .currency)) ∷ []
+
+-- 9, "weights break their rule, in number, in sum or (a book's) past the count, ... in a given book"
+abbrev pub rows9 : Book → List Row
+rows9 b = weightRows (b .count) (b .weights)
+
+-- 10, "a given book's net total is" negative
+abbrev pub rows10 : Book → List Row
+rows10 b = row Negative (negative (b .net)) ∷ []
+
+-- the rows of a call on a book in the table's order: among the book's own, those of what else the call takes, by number
+unfoldable pub withBook : Book → (two three four five nine ten : List Row) → List Row
+withBook b two three four five nine ten =
+    two ++ (three ++ (rows3 b ++ (four ++ (rows4 b ++ (five ++ (rows9 b ++ (nine ++ (ten ++ rows10 b))))))))
+
+-- a book alone
+abbrev pub bookRows : Book → List Row
+bookRows b = withBook b [] [] [] [] [] []
+
+-- a book with lists: 9 where they break a rule, and last 11 where a lent one is short
+unfoldable pub listedRows : Book → (broken short : Bool) → List Row
+listedRows b broken short = withBook b [] [] [] [] (row Weights broken ∷ []) [] ++ (row Room short ∷ [])

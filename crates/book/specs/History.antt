@@ -4,13 +4,14 @@ use mathlib.Core.Path.{_≡_}
 use mathlib.Core.List.{List, [], _∷_}
 use Prim.Native.Nat.{ℕ, _+_, _-_, _*_, _/_, _≤_}
 use lib.ListN.{getD}
+use Rattle.refusal.specs.Rows.{Said, gives, refuses}
 use Rattle.whole.specs.Sums.{sumOf}
 use Rattle.amount.specs.declared.Amount.{Amount}
 use Rattle.units.specs.Rule.{totals}
 use Rattle.book.specs.declared.Book.{Book}
 use Rattle.book.specs.declared.Moved.{Moved}
 use Rattle.book.specs.Books.{zeros}
-use Rattle.book.specs.Moves.{netOf, Posts, Refunds}
+use Rattle.book.specs.Moves.{netOf, unitsOf, postSaid, refundSaid, Posts, Refunds}
 
 -- place by place, the sum of two lists
 unfoldable pub plusOf : List ℕ → List ℕ → List ℕ
@@ -26,6 +27,22 @@ pub data History (opened : Book) : (book : Book) (paid taken : List ℕ) → Typ
       → History opened (r .book) (plusOf paid (r .payouts)) taken
   refunded : {b : Book} {paid taken : List ℕ} → History opened b paid taken → (a : Amount) (r : Moved) → Refunds b a r
       → History opened (r .book) paid (plusOf taken (r .payouts))
+
+-- the units of a call that is accepted; none where it is refused
+abbrev pub acceptedOf : Said ℕ → ℕ → ℕ
+acceptedOf (gives n) units = units
+acceptedOf (refuses number blamed) units = 0
+
+-- the accepted postings of a history, added, and its accepted refunds
+unfoldable pub postings : {opened b : Book} {paid taken : List ℕ} → History opened b paid taken → ℕ
+postings none = 0
+postings (posted {b = b} h a r p) = postings h + acceptedOf (postSaid b a) (unitsOf a)
+postings (refunded h a r p) = postings h
+
+unfoldable pub refunds : {opened b : Book} {paid taken : List ℕ} → History opened b paid taken → ℕ
+refunds none = 0
+refunds (posted h a r p) = refunds h
+refunds (refunded {b = b} h a r p) = refunds h + acceptedOf (refundSaid b a) (unitsOf a)
 
 -- the running total of the partner at place i: what it was paid, less what was taken back
 abbrev pub running : (paid taken : List ℕ) (i : ℕ) → ℕ

@@ -1,4 +1,5 @@
 pub mod Books
 pub mod Moves
-pub mod Running
 pub mod History
+pub mod Broken
+pub mod Checks

@@ -9,16 +9,14 @@ use refusal::Refusal;
 use whole::is_negative;
 use whole::magnitude;
 ghost use mathlib.Core.Path.{_≡_};
-ghost use mathlib.Core.List.{[], _∷_, _++_};
-ghost use Prim.Native.Nat.{_+_};
-ghost use lib.Dec.{ltb};
+ghost use mathlib.Core.List.{_∷_, _++_};
 ghost use Rattle.refusal.specs.Rows.{row, checkOf};
-ghost use Rattle.refusal.specs.declared.Refusal.the-variants.{Magnitude, Unknown, Negative, Refund, Limit};
-ghost use Rattle.whole.specs.Whole.{negative};
+ghost use Rattle.refusal.specs.declared.Refusal.the-variants.{Magnitude, Unknown};
 ghost use Rattle.amount.specs.Amounts.{overL};
 ghost use Rattle.currency.specs.Table.{unknown};
-ghost use Rattle.book.specs.Books.{givenRows, weightRows, signRows};
-ghost use Rattle.book.specs.Moves.{netOf, unitsOf, moveRows};
+ghost use Rattle.book.specs.Books.{netOf, weightRows, listedRows};
+ghost use Rattle.book.specs.Moves.{unitsOf, moveRows, postRows, refundRows};
+ghost use Rattle.book.specs.Checks.{givenRows, signRows, lastRows};
 
 // Rows 2 to 5 at an amount and at a book: m and n are the magnitudes of the coefficient and of the net total.
 fn check_given(scale: u8, m: u64, currency: Currency, n: u64, own: Currency) -> Checked
@@ -90,7 +88,9 @@ fn check_move(book: Book, amount: Amount) -> Checked
 {
     let units = units_of(amount);
     let net = net_of(book);
-    match check_given(amount.scale, units, amount.currency, net, book.currency) {
+    let currency = amount.currency;
+    let own = book.currency;
+    match check_given(amount.scale, units, currency, net, own) {
         Checked::Refused(refusal) => Checked::Refused(refusal),
         Checked::Passed => {
             let weights = book.weights;
@@ -106,7 +106,7 @@ fn check_move(book: Book, amount: Amount) -> Checked
 
 // The rows of a posting; row 13 last, where the sum of two numbers within L can't wrap.
 pub(crate) fn check_post(book: Book, amount: Amount) -> Checked
-    ensures { λ r. ⌜ r ≡ checkOf (moveRows book amount ++ (row Limit (overL (netOf book + unitsOf amount)) ∷ [])) ⌝ }
+    ensures { λ r. ⌜ r ≡ checkOf (postRows book amount) ⌝ }
 {
     match check_move(book, amount) {
         Checked::Refused(refusal) => Checked::Refused(refusal),
@@ -120,7 +120,7 @@ pub(crate) fn check_post(book: Book, amount: Amount) -> Checked
 
 // The rows of a refund; row 12 last.
 pub(crate) fn check_refund(book: Book, amount: Amount) -> Checked
-    ensures { λ r. ⌜ r ≡ checkOf (moveRows book amount ++ (row Refund (ltb (netOf book) (unitsOf amount)) ∷ [])) ⌝ }
+    ensures { λ r. ⌜ r ≡ checkOf (refundRows book amount) ⌝ }
 {
     match check_move(book, amount) {
         Checked::Refused(refusal) => Checked::Refused(refusal),
@@ -132,15 +132,33 @@ pub(crate) fn check_refund(book: Book, amount: Amount) -> Checked
     }
 }
 
-// Rows 3, 4, 9 and 10 at a book's parts.
+// Rows 9, 10 and 11 behind a book's weights.
+fn check_last(broken: bool, net: bool, short: bool) -> Checked
+    ensures { λ r. ⌜ r ≡ checkOf (lastRows broken net short) ⌝ }
+{
+    if broken {
+        return Checked::Refused(Refusal::Weights);
+    }
+    if net {
+        return Checked::Refused(Refusal::Negative);
+    }
+    if short {
+        return Checked::Refused(Refusal::Room);
+    }
+    Checked::Passed
+}
+
+// Rows 3, 4 and 9 at a book's parts, and those behind.
 fn check_parts(
     n: u64,
     own: Currency,
     count: usize,
     weights: [u32; Book::PARTNERS],
+    broken: bool,
     net: bool,
+    short: bool,
 ) -> Checked
-    ensures { λ r. ⌜ r ≡ checkOf (row Magnitude (overL n) ∷ row Unknown (unknown own) ∷ weightRows count weights ++ (row Negative net ∷ [])) ⌝ }
+    ensures { λ r. ⌜ r ≡ checkOf (row Magnitude (overL n) ∷ row Unknown (unknown own) ∷ weightRows count weights ++ lastRows broken net short) ⌝ }
 {
     if Amount::L < n {
         return Checked::Refused(Refusal::Magnitude);
@@ -150,24 +168,25 @@ fn check_parts(
     }
     match check_weights(count, weights) {
         Checked::Refused(refusal) => Checked::Refused(refusal),
-        Checked::Passed => if net {
-            Checked::Refused(Refusal::Negative)
-        } else {
-            Checked::Passed
-        },
+        Checked::Passed => check_last(broken, net, short),
     }
 }
 
-// The rows of the running totals.
-pub(crate) fn check_book(book: Book) -> Checked
-    ensures { λ r. ⌜ r ≡ checkOf (row Magnitude (overL (netOf book)) ∷ row Unknown (unknown (book .currency)) ∷ weightRows (book .count) (book .weights) ++ (row Negative (negative (book .net)) ∷ [])) ⌝ }
-{
-    let weights = book.weights;
-    check_parts(
-        net_of(book),
-        book.currency,
-        book.count as usize,
-        weights,
-        is_negative(book.net),
-    )
+impl Book {
+    // The rows of a given book, and of lists that a call takes with it: whether they break a rule, and whether a lent one is short.
+    pub fn check(self, broken: bool, short: bool) -> Checked
+        ensures { λ r. ⌜ r ≡ checkOf (listedRows self broken short) ⌝ }
+    {
+        let own = self.currency;
+        let weights = self.weights;
+        check_parts(
+            net_of(self),
+            own,
+            self.count as usize,
+            weights,
+            broken,
+            is_negative(self.net),
+            short,
+        )
+    }
 }

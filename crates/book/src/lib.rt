@@ -3,12 +3,9 @@ use currency::Currency;
 use refusal::Checked;
 
 mod checks;
-mod full;
 mod moves;
 mod opening;
-mod running;
 mod weights;
-mod window;
 
 // A currency, a count of 1 to 16, sixteen weights (those past the count are 0) with sum W from 1 to 10,000, and a net total
 // from 0 to L. Any values may come in: every call checks them all.
@@ -21,9 +18,9 @@ pub struct Book {
 
 impl Book {
     // The places for partners.
-    pub const PARTNERS: usize = 16;
+    pub const PARTNERS: usize = running::PARTNERS;
     // The largest sum of the weights.
-    pub const WEIGHT_SUM: u64 = 10_000;
+    pub const WEIGHT_SUM: u64 = running::WEIGHT_SUM;
 }
 
 // The answer of an opening: where it is refused, the book's every field is 0.

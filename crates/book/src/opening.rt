@@ -7,17 +7,12 @@ use currency::Currency;
 use refusal::Checked;
 use refusal::Refusal;
 ghost use mathlib.Core.Path.{_≡_};
-ghost use mathlib.Core.List.{_∷_};
-ghost use lib.ListN.{length};
-ghost use Rattle.refusal.specs.Rows.{row, checkOf};
-ghost use Rattle.refusal.specs.declared.Refusal.the-variants.{Unknown};
-ghost use Rattle.currency.specs.Table.{unknown};
-ghost use Rattle.book.specs.Books.{weightRows};
-ghost use Rattle.book.specs.Moves.{zeroBook, Opens};
+ghost use Rattle.refusal.specs.Rows.{checkOf};
+ghost use Rattle.book.specs.Moves.{zeroBook, openRows, Opens};
 
 // Rows 4 and 9 at a currency number and a list of weights, which is summed only where it has places in a book.
 fn check_open(currency: Currency, weights: &[u32]) -> Checked
-    ensures { λ r. ⌜ r ≡ checkOf (row Unknown (unknown currency) ∷ weightRows (length (now (weights .entry))) (now (weights .entry))) ⌝ }
+    ensures { λ r. ⌜ r ≡ checkOf (openRows currency (now (weights .entry))) ⌝ }
 {
     if Currency::LAST < currency.0 {
         return Checked::Refused(Refusal::Unknown);

@@ -1,27 +1,14 @@
-// The weights of a book: their sums, row 9 of the table of refusals, and a list of weights in a book's sixteen places.
+// The weights of a book: row 9 of the table of refusals, and a list of weights in a book's sixteen places.
 use crate::Book;
 use refusal::Checked;
 use refusal::Refusal;
+use running::sum_from;
 ghost use mathlib.Core.Path.{_≡_};
 ghost use mathlib.Core.List.{_++_};
 ghost use Prim.Native.Nat.{_-_, _≤_};
-ghost use lib.ListN.{length, drop, replicate};
+ghost use lib.ListN.{length, replicate};
 ghost use Rattle.refusal.specs.Rows.{checkOf};
-ghost use Rattle.whole.specs.Sums.{sumOf};
 ghost use Rattle.book.specs.Books.{partners, weightRows};
-
-// The sum of the weights from a place on.
-pub(crate) fn sum_from(weights: [u32; Book::PARTNERS], from: usize) -> u64
-    ensures { λ r. ⌜ r ≡ sumOf (drop from weights) ⌝ }
-{
-    let mut sum: u64 = 0;
-    let mut i = Book::PARTNERS;
-    while from < i {
-        i -= 1;
-        sum += weights[i] as u64;
-    }
-    sum
-}
 
 // Row 9 at a count and the sixteen places.
 pub(crate) fn check_weights(count: usize, weights: [u32; Book::PARTNERS]) -> Checked

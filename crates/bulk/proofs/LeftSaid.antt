@@ -5,8 +5,8 @@ use mathlib.Core.Bool.{Bool, true, false, cond}
 use mathlib.Core.List.{List, [], _∷_}
 use Prim.Native.Nat.{ℕ, _+_, _-_, _*_, _≤_}
 use native.Mathlib.Omega.{arith}
-use borrow.Author.Tests.{ltb-false, eq-eqb, ne-eqb}
-use lib.Dec.{ltb, eqb}
+use borrow.Author.Tests.{ltb-false}
+use lib.Dec.{ltb}
 use lib.IntN.{ℤ}
 use lib.ListN.{getD, set}
 use Rattle.refusal.specs.Number.{numberOf}
@@ -20,10 +20,10 @@ use Rattle.units.proofs.Added.{never-fall}
 use Rattle.book.specs.Books.{partners, zeros}
 use Rattle.book.specs.Moves.{lessOf}
 use Rattle.bulk.specs.Runs.{numberSaid, written}
-use Rattle.bulk.specs.Cycle.{Weighed}
+use Rattle.cycle.specs.Cycle.{Weighed}
 use Rattle.bulk.specs.Left.{leftSaid, leftNet, leftPays, Stepped}
 
--- whatever the kind
+-- whether it is a refund or not
 pub same-either : {A : Type 0} (x : Bool) (a : A) → cond x a a ≡ a
 same-either true a = refl
 same-either false a = refl
@@ -38,20 +38,20 @@ accepted v false true w last some e = absurd (omega arith)
 accepted v false false true last some e = absurd (omega arith)
 accepted v false false false last some e = (refl, refl)
 
-module _ (kind : ℕ) (sign : Bool) (m n : ℕ) (zero : numberSaid (leftSaid kind sign m n) ≡ 0) where
+module _ (refund : Bool) (sign : Bool) (m n : ℕ) (zero : numberSaid (leftSaid refund sign m n) ≡ 0) where
   -- an accepted posting
-  pub left-posts : kind ≡ 0 → (leftSaid kind sign m n ≡ gives (n + m)) × (n + m ≤ largest)
+  pub left-posts : refund ≡ false → (leftSaid refund sign m n ≡ gives (n + m)) × (n + m ≤ largest)
   unfolding leftSaid
   left-posts posts =
-      let a = accepted (n + m) (overL m) sign (overL (n + m)) Limit (omega arith) (rw (eq-eqb kind 0 posts) at zero) in
-      rw (eq-eqb kind 0 posts) (a .0, ltb-false largest (n + m) (a .1))
+      let a = accepted (n + m) (overL m) sign (overL (n + m)) Limit (omega arith) (rw posts at zero) in
+      rw posts (a .0, ltb-false largest (n + m) (a .1))
 
   -- an accepted refund
-  pub left-refunds : (kind ≡ 0 → ⊥) → (leftSaid kind sign m n ≡ gives (n - m)) × (m ≤ n)
+  pub left-refunds : refund ≡ true → (leftSaid refund sign m n ≡ gives (n - m)) × (m ≤ n)
   unfolding leftSaid
   left-refunds refunds =
-      let a = accepted (n - m) (overL m) sign (ltb n m) Refund (omega arith) (rw (ne-eqb kind 0 refunds) at zero) in
-      rw (ne-eqb kind 0 refunds) (a .0, ltb-false n m (a .1))
+      let a = accepted (n - m) (overL m) sign (ltb n m) Refund (omega arith) (rw refunds at zero) in
+      rw refunds (a .0, ltb-false n m (a .1))
 
 -- in any case the net total stays within L
 within : (n v : ℕ) (x y w : Bool) (last : Refusal) → n ≤ largest → (w ≡ false → v ≤ largest)
@@ -62,64 +62,64 @@ within n v false true w last limit h = limit
 within n v false false true last limit h = limit
 within n v false false false last limit h = h refl
 
-left-within : (kind : ℕ) (sign : Bool) (m n : ℕ) → n ≤ largest → leftNet n (leftSaid kind sign m n) ≤ largest
+left-within : (refund : Bool) (sign : Bool) (m n : ℕ) → n ≤ largest → leftNet n (leftSaid refund sign m n) ≤ largest
 unfolding leftSaid
-left-within kind sign m n limit =
-    either (eqb kind 0) _ _
-    (within n (n + m) (overL m) sign (overL (n + m)) Limit limit (ltb-false largest (n + m)))
+left-within refund sign m n limit =
+    either refund _ _
     (within n (n - m) (overL m) sign (ltb n m) Refund limit (λ e. omega arith))
+    (within n (n + m) (overL m) sign (overL (n + m)) Limit limit (ltb-false largest (n + m)))
   where
     either : (x : Bool) (s t : Said ℕ) → leftNet n s ≤ largest → leftNet n t ≤ largest → leftNet n (cond x s t) ≤ largest
     either true s t p q = p
     either false s t p q = q
 
 -- a refused call
-left-stays : (kind : ℕ) (ws : List ℕ) (n : ℕ) (said : Said ℕ) → (numberSaid said ≡ 0 → ⊥) → (leftNet n said ≡ n) × (leftPays kind ws n said ≡ zeros)
+left-stays : (refund : Bool) (ws : List ℕ) (n : ℕ) (said : Said ℕ) → (numberSaid said ≡ 0 → ⊥) → (leftNet n said ≡ n) × (leftPays refund ws n said ≡ zeros)
 unfolding numberSaid leftNet leftPays
-left-stays kind ws n (gives m) some = absurd (some refl)
-left-stays kind ws n (refuses number blamed) some = (refl, refl)
+left-stays refund ws n (gives m) some = absurd (some refl)
+left-stays refund ws n (refuses number blamed) some = (refl, refl)
 
 -- a call in the program's variables: its sign and magnitude, the number that the check gave, and what was written
-module _ (ws : List ℕ) (kind : ℕ) (c : ℤ) (j n m number : ℕ) (sign : Bool) (payouts numbers held ps : List ℕ)
-    (same-sign : sign ≡ negative c) (same-m : m ≡ magnitudeOf c) (checked : number ≡ numberSaid (leftSaid kind sign m n)) (at : held ≡ totals ws n) where
+module _ (ws : List ℕ) (refund : Bool) (c : ℤ) (j n m number : ℕ) (sign : Bool) (payouts numbers held ps : List ℕ)
+    (same-sign : sign ≡ negative c) (same-m : m ≡ magnitudeOf c) (checked : number ≡ numberSaid (leftSaid refund sign m n)) (at : held ≡ totals ws n) where
   -- what was written is what the call says
-  stepped : (said : Said ℕ) → leftSaid kind sign m n ≡ said → (next : ℕ) (ts : List ℕ) → next ≡ leftNet n said → ts ≡ totals ws next
-      → ps ≡ written payouts (j * partners) (leftPays kind ws n said) partners → Stepped ws kind c j n payouts numbers next ts ps (set numbers j number)
+  stepped : (said : Said ℕ) → leftSaid refund sign m n ≡ said → (next : ℕ) (ts : List ℕ) → next ≡ leftNet n said → ts ≡ totals ws next
+      → ps ≡ written payouts (j * partners) (leftPays refund ws n said) partners → Stepped ws refund c j n payouts numbers next ts ps (set numbers j number)
   stepped said is next ts moved new put =
-      let same : leftSaid kind sign m n ≡ leftSaid kind (negative c) (magnitudeOf c) n = ap₂ (λ (s : Bool) (x : ℕ). leftSaid kind s x n) same-sign same-m in
+      let same : leftSaid refund sign m n ≡ leftSaid refund (negative c) (magnitudeOf c) n = ap₂ (λ (s : Bool) (x : ℕ). leftSaid refund s x n) same-sign same-m in
       let e = sym is ∙ same in
       record {
         net = moved ∙ ap (leftNet n) e;
         held = new;
-        paid = put ∙ ap (λ (x : Said ℕ). written payouts (j * partners) (leftPays kind ws n x) partners) e;
+        paid = put ∙ ap (λ (x : Said ℕ). written payouts (j * partners) (leftPays refund ws n x) partners) e;
         said = ap (set numbers j) (checked ∙ ap numberSaid same);
       }
 
   pub step-refused : (number ≡ 0 → ⊥) → ps ≡ written payouts (j * partners) zeros partners
-      → Stepped ws kind c j n payouts numbers n held ps (set numbers j number)
+      → Stepped ws refund c j n payouts numbers n held ps (set numbers j number)
   step-refused some put =
-      let said = leftSaid kind sign m n in
-      let stays = left-stays kind ws n said (λ e. some (checked ∙ e)) in
+      let said = leftSaid refund sign m n in
+      let stays = left-stays refund ws n said (λ e. some (checked ∙ e)) in
       stepped said refl n held (sym (stays .0)) at (put ∙ ap (λ (l : List ℕ). written payouts (j * partners) l partners) (sym (stays .1)))
 
   module _ (zero : number ≡ 0) (ts : List ℕ) where
-    pub step-posted : kind ≡ 0 → ts ≡ totals ws (n + m) → ps ≡ written payouts (j * partners) (lessOf ts held) partners
-        → Stepped ws kind c j n payouts numbers (n + m) ts ps (set numbers j number)
+    pub step-posted : refund ≡ false → ts ≡ totals ws (n + m) → ps ≡ written payouts (j * partners) (lessOf ts held) partners
+        → Stepped ws refund c j n payouts numbers (n + m) ts ps (set numbers j number)
     unfolding leftNet leftPays
     step-posted posts more put =
-        stepped (gives (n + m)) (left-posts kind sign m n (sym checked ∙ zero) posts .0) (n + m) ts refl more
-        (rw (eq-eqb kind 0 posts, ← more, ← at) put)
+        stepped (gives (n + m)) (left-posts refund sign m n (sym checked ∙ zero) posts .0) (n + m) ts refl more
+        (rw (posts, ← more, ← at) put)
 
-    pub step-refunded : (kind ≡ 0 → ⊥) → ts ≡ totals ws (n - m) → ps ≡ written payouts (j * partners) (lessOf held ts) partners
-        → Stepped ws kind c j n payouts numbers (n - m) ts ps (set numbers j number)
+    pub step-refunded : refund ≡ true → ts ≡ totals ws (n - m) → ps ≡ written payouts (j * partners) (lessOf held ts) partners
+        → Stepped ws refund c j n payouts numbers (n - m) ts ps (set numbers j number)
     unfolding leftNet leftPays
     step-refunded refunds less put =
-        stepped (gives (n - m)) (left-refunds kind sign m n (sym checked ∙ zero) refunds .0) (n - m) ts refl less
-        (rw (ne-eqb kind 0 refunds, ← less, ← at) put)
+        stepped (gives (n - m)) (left-refunds refund sign m n (sym checked ∙ zero) refunds .0) (n - m) ts refl less
+        (rw (refunds, ← less, ← at) put)
 
-pub step-within : {ws : List ℕ} {kind : ℕ} {c : ℤ} {j n : ℕ} {payouts numbers : List ℕ} {next : ℕ} {ts ps ns : List ℕ} → n ≤ largest
-    → Stepped ws kind c j n payouts numbers next ts ps ns → next ≤ largest
-step-within {kind = kind} {c = c} {n = n} limit s = rw (s .net) (left-within kind (negative c) (magnitudeOf c) n limit)
+pub step-within : {ws : List ℕ} {refund : Bool} {c : ℤ} {j n : ℕ} {payouts numbers : List ℕ} {next : ℕ} {ts ps ns : List ℕ} → n ≤ largest
+    → Stepped ws refund c j n payouts numbers next ts ps ns → next ≤ largest
+step-within {refund = refund} {c = c} {n = n} limit s = rw (s .net) (left-within refund (negative c) (magnitudeOf c) n limit)
 
 -- the totals at a greater net total are not below those at a lesser
 pub totals-rise : (ws : List ℕ) {sum : ℕ} → Weighed ws sum → (low high : ℕ) (ls hs : List ℕ) → low ≤ high → ls ≡ totals ws low → hs ≡ totals ws high

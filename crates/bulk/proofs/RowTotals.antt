@@ -7,14 +7,17 @@ use native.Mathlib.Nat.{pow-zero, pow-suc, div-one, div-div-eq-div-mul, mod-lt, 
 use native.Mathlib.Numerals.{add-one}
 use native.Mathlib.Omega.{arith}
 use lib.ListN.{length, getD, set}
+use Rattle.whole.specs.Lists.{filled}
+use Rattle.whole.proofs.Lists.{fill-none}
 use Rattle.units.specs.Rule.{totals}
 use Rattle.units.proofs.Added.{length-totals}
 use Rattle.units.proofs.Mask.{mask-cycle}
 use Rattle.book.specs.Books.{partners, weightSum, zeros}
-use Rattle.bulk.specs.Cycle.{Weighed, Cycled}
-use Rattle.bulk.proofs.CycleBounds.{product, some-weight, weight-within}
+use Rattle.cycle.specs.Cycle.{Weighed, Cycled}
+use Rattle.running.proofs.Fitting.{product}
+use Rattle.running.proofs.Places.{fill-next, filled-whole}
+use Rattle.cycle.proofs.Bounds.{some-weight, weight-within}
 use Rattle.bulk.proofs.RowShare.{share-is, part-within}
-use Rattle.bulk.proofs.CycleFilled.{Filled, filled-start, filled-more, filled-all}
 
 -- 2 ^ 40
 abbrev pub scale : ℕ
@@ -23,13 +26,15 @@ scale = 1099511627776
 -- the first i totals, and what is left of the row
 pub record Read (ws : List ℕ) (sum : ℕ) (table : List ℕ) (n bits : ℕ) (held : List ℕ) (i : ℕ) : Type 0 where
   pub left : bits ≡ getD table (n % sum) 0 / 2 ^ i
-  pub filled : Filled (λ k. getD (totals ws n) k 0) held i
+  pub upto : i ≤ partners
+  pub filled : held ≡ filled 0 (λ k. getD (totals ws n) k 0) i zeros
 
 module _ (ws : List ℕ) (sum : ℕ) (table : List ℕ) (n : ℕ) where
   pub read-start : Read ws sum table n (getD table (n % sum) 0) zeros 0
   read-start = record {
     left = sym (rw pow-zero (div-one (getD table (n % sum) 0)));
-    filled = filled-start (λ k. getD (totals ws n) k 0);
+    upto = omega arith;
+    filled = fill-none 0 (λ k. getD (totals ws n) k 0) zeros;
   }
 
   module _ (w : Weighed ws sum) (long : length ws ≡ partners) (t : Cycled ws sum table) where
@@ -62,9 +67,10 @@ module _ (ws : List ℕ) (sum : ℕ) (table : List ℕ) (n : ℕ) where
       pub read-more : Read ws sum table n (bits / 2) (set held i (n / sum * getD ws i 0 + n % sum * (scale / sum + 1) * getD ws i 0 / scale + bits % 2)) (i + 1)
       read-more = record {
         left = rw (r .left, add-one, pow-suc) (div-div-eq-div-mul (getD table (n % sum) 0) (2 ^ i) 2);
-        filled = filled-more (λ k. getD (totals ws n) k 0) held i (r .filled) _ b total-is;
+        upto = omega arith;
+        filled = fill-next (λ k. getD (totals ws n) k 0) zeros held i _ (r .filled) total-is;
       }
 
     pub read-end : (bits : ℕ) (held : List ℕ) (i : ℕ) → Read ws sum table n bits held i → partners ≤ i → held ≡ totals ws n
     read-end bits held i r end =
-        filled-all (λ k. getD (totals ws n) k 0) held i (r .filled) (totals ws n) end (length-totals ws n ∙ long) (λ k b. refl)
+        r .filled ∙ filled-whole (λ k. getD (totals ws n) k 0) zeros i (totals ws n) (omega (arith, r .upto)) (length-totals ws n ∙ long) (λ k b. refl)

@@ -4,7 +4,6 @@ use mathlib.Core.Path.{refl}
 use mathlib.Core.Bool.{Bool, true, false, cond}
 use mathlib.Core.List.{List, [], _∷_}
 use Prim.Native.Nat.{ℕ, zero, suc}
-use lib.Dec.{eqb}
 use lib.IntN.{ℤ, pos}
 use lib.ListN.{getD}
 use Rattle.refusal.specs.declared.Checked.the-variants.{Passed, Refused}
@@ -12,11 +11,10 @@ use Rattle.refusal.specs.Rows.{gives, Row, row, firstRow}
 use Rattle.amount.specs.declared.Amount.{Amount}
 use Rattle.book.specs.declared.Book.{Book}
 use Rattle.book.specs.declared.Moved.{Moved}
-use Rattle.book.specs.Moves.{postSaid, refundSaid, nextBook, paidOf, takenOf, Answers}
+use Rattle.book.specs.Moves.{amountOf, postRows, refundRows, postSaid, refundSaid, nextBook, paidOf, takenOf, Answers}
 use Rattle.book.specs.History.{plusOf, History, posted, refunded}
-use Rattle.book.proofs.Rows.{postRows, refundRows}
 use Rattle.bulk.specs.declared.Ran.{Ran}
-use Rattle.bulk.specs.Runs.{amountOf, callSaid, callPays, bookAfter, Serves}
+use Rattle.bulk.specs.Runs.{callSaid, callPays, bookAfter, Serves}
 use Rattle.bulk.specs.Paid.{paidAfter, takenAfter}
 
 -- whatever rows say, there is an answer that says so
@@ -42,28 +40,23 @@ module _ (opened b : Book) (paid taken : List ℕ) (h : History opened b paid ta
       rw (r .1 .book, r .1 .paid) at (refunded h a (r .0) (r .1))
 
   -- one call more
-  history-called : (kind : ℕ) (c : ℤ)
-      → let said = callSaid kind b c in
-      History opened (nextBook b said) (cond (eqb kind 0) (plusOf paid (callPays kind b said)) paid) (cond (eqb kind 0) taken (plusOf taken (callPays kind b said)))
+  history-called : (refund : Bool) (c : ℤ)
+      → let said = callSaid refund b c in
+      History opened (nextBook b said) (cond refund paid (plusOf paid (callPays refund b said))) (cond refund (plusOf taken (callPays refund b said)) taken)
   unfolding callSaid callPays
-  history-called kind c = go (eqb kind 0)
-    where
-      go : (x : Bool)
-          → let said = cond x (postSaid b (amountOf b c)) (refundSaid b (amountOf b c)) in
-          let pays = cond x (paidOf b said) (takenOf b said) in History opened (nextBook b said) (cond x (plusOf paid pays) paid) (cond x taken (plusOf taken pays))
-      go true = history-posted (amountOf b c)
-      go false = history-refunded (amountOf b c)
+  history-called true c = history-refunded (amountOf b c)
+  history-called false c = history-posted (amountOf b c)
 
-module _ (opened b : Book) (paid taken : List ℕ) (h : History opened b paid taken) (kinds : List ℕ) (coefficients : List ℤ) where
+module _ (opened b : Book) (paid taken : List ℕ) (h : History opened b paid taken) (refunds : List Bool) (coefficients : List ℤ) where
   pub calls-history : (j : ℕ)
-      → History opened (bookAfter b kinds coefficients j) (paidAfter b kinds coefficients paid j) (takenAfter b kinds coefficients taken j)
+      → History opened (bookAfter b refunds coefficients j) (paidAfter b refunds coefficients paid j) (takenAfter b refunds coefficients taken j)
   unfolding bookAfter paidAfter takenAfter
   calls-history zero = h
   calls-history (suc j) =
-      history-called opened (bookAfter b kinds coefficients j) (paidAfter b kinds coefficients paid j) (takenAfter b kinds coefficients taken j)
-      (calls-history j) (getD kinds j 0) (getD coefficients j (pos 0))
+      history-called opened (bookAfter b refunds coefficients j) (paidAfter b refunds coefficients paid j) (takenAfter b refunds coefficients taken j)
+      (calls-history j) (getD refunds j false) (getD coefficients j (pos 0))
 
   -- the history at the end of a run
-  pub run-history : (payouts numbers : List ℕ) (ran : Ran) (ps ns : List ℕ) → Serves b kinds coefficients payouts numbers ran ps ns
-      → History opened (ran .book) (paidAfter b kinds coefficients paid (ran .served)) (takenAfter b kinds coefficients taken (ran .served))
+  pub run-history : (payouts numbers : List ℕ) (ran : Ran) (ps ns : List ℕ) → Serves b refunds coefficients payouts numbers ran ps ns
+      → History opened (ran .book) (paidAfter b refunds coefficients paid (ran .served)) (takenAfter b refunds coefficients taken (ran .served))
   run-history payouts numbers ran ps ns s = rw (s .book) (calls-history (ran .served))

@@ -4,8 +4,8 @@ use mathlib.Core.Path.{_≡_}
 use mathlib.Core.Bool.{Bool, cond}
 use mathlib.Core.List.{List, [], _∷_}
 use Prim.Native.Nat.{ℕ, _+_, _-_, _*_}
-use lib.Dec.{ltb, eqb}
-use lib.IntN.{ℤ, pos}
+use lib.Dec.{ltb}
+use lib.IntN.{ℤ}
 use lib.ListN.{set}
 use Rattle.refusal.specs.Rows.{Said, gives, refuses, Row, row, firstRow, checkOf}
 use Rattle.refusal.specs.declared.Checked.the-variants.{Passed}
@@ -14,24 +14,24 @@ use Rattle.whole.specs.Whole.{negative, magnitudeOf}
 use Rattle.amount.specs.Amounts.{overL}
 use Rattle.units.specs.Rule.{totals}
 use Rattle.book.specs.declared.Book.{Book}
-use Rattle.book.specs.Books.{partners, zeros}
-use Rattle.book.specs.Moves.{moveRows, lessOf}
-use Rattle.bulk.specs.Runs.{amountOf, numberSaid, written}
+use Rattle.book.specs.Books.{partners, zeros, bookRows}
+use Rattle.book.specs.Moves.{lessOf}
+use Rattle.bulk.specs.Runs.{numberSaid, written}
 
--- no row of the book itself holds: a call of 0 on it passes
-abbrev pub Stands : Book → Type 0
-Stands b = checkOf (moveRows b (amountOf b (pos 0))) ≡ Passed
+-- no row of the book itself holds
+abbrev pub Sound : Book → Type 0
+Sound b = checkOf (bookRows b) ≡ Passed
 
 -- rows 3 and 10 at the coefficient, and the last row of a posting or of a refund
 abbrev pub leftRows : Bool → ℕ → Row → List Row
 leftRows negative m last = row Magnitude (overL m) ∷ row Negative negative ∷ last ∷ []
 
 -- the new net total, or the refusal
-unfoldable pub leftSaid : (kind : ℕ) → Bool → (m n : ℕ) → Said ℕ
-leftSaid kind negative m n =
-    cond (eqb kind 0)
-    (firstRow (leftRows negative m (row Limit (overL (n + m)))) (gives (n + m)))
+unfoldable pub leftSaid : (refund : Bool) → Bool → (m n : ℕ) → Said ℕ
+leftSaid refund negative m n =
+    cond refund
     (firstRow (leftRows negative m (row Refund (ltb n m))) (gives (n - m)))
+    (firstRow (leftRows negative m (row Limit (overL (n + m)))) (gives (n + m)))
 
 -- the net total after a call at n
 unfoldable pub leftNet : ℕ → Said ℕ → ℕ
@@ -39,13 +39,13 @@ leftNet n (gives m) = m
 leftNet n (refuses number blamed) = n
 
 -- the payouts of a call at n
-unfoldable pub leftPays : (kind : ℕ) → List ℕ → ℕ → Said ℕ → List ℕ
-leftPays kind ws n (gives m) = cond (eqb kind 0) (lessOf (totals ws m) (totals ws n)) (lessOf (totals ws n) (totals ws m))
-leftPays kind ws n (refuses number blamed) = zeros
+unfoldable pub leftPays : (refund : Bool) → List ℕ → ℕ → Said ℕ → List ℕ
+leftPays refund ws n (gives m) = cond refund (lessOf (totals ws n) (totals ws m)) (lessOf (totals ws m) (totals ws n))
+leftPays refund ws n (refuses number blamed) = zeros
 
 -- call j at net total n is served: the next net total with its running totals, the call's payouts and its number written
-pub record Stepped (ws : List ℕ) (kind : ℕ) (c : ℤ) (j n : ℕ) (payouts numbers : List ℕ) (next : ℕ) (ts payouts′ numbers′ : List ℕ) : Type 0 where
-  pub net : next ≡ leftNet n (leftSaid kind (negative c) (magnitudeOf c) n)
+pub record Stepped (ws : List ℕ) (refund : Bool) (c : ℤ) (j n : ℕ) (payouts numbers : List ℕ) (next : ℕ) (ts payouts′ numbers′ : List ℕ) : Type 0 where
+  pub net : next ≡ leftNet n (leftSaid refund (negative c) (magnitudeOf c) n)
   pub held : ts ≡ totals ws next
-  pub paid : payouts′ ≡ written payouts (j * partners) (leftPays kind ws n (leftSaid kind (negative c) (magnitudeOf c) n)) partners
-  pub said : numbers′ ≡ set numbers j (numberSaid (leftSaid kind (negative c) (magnitudeOf c) n))
+  pub paid : payouts′ ≡ written payouts (j * partners) (leftPays refund ws n (leftSaid refund (negative c) (magnitudeOf c) n)) partners
+  pub said : numbers′ ≡ set numbers j (numberSaid (leftSaid refund (negative c) (magnitudeOf c) n))

@@ -2,4 +2,3 @@ pub mod Runs
 pub mod Serving
 pub mod Left
 pub mod Paid
-pub mod Cycle

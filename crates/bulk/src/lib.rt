@@ -2,12 +2,12 @@
 use book::Book;
 use refusal::Checked;
 
-mod cycle;
+mod reading;
 mod serving;
 mod tabled;
 mod turns;
 
-// The answer of a run: the last book and how many calls were served; where the lists are refused, the given book and none.
+// The answer of a run: the last book and how many calls were served; where the run is refused, the given book and none.
 pub struct Ran {
     pub outcome: Checked,
     pub book: Book,

@@ -1,10 +1,10 @@
-// The calls of a run by a table of one cycle, for a book that stands: only the coefficient's own rows are left to look at, and a
+// The calls of a run by a table of one cycle, for a book of which no row holds: only the coefficient's own rows are left to look at, and a
 // call's running totals are the next call's.
-use crate::cycle::fill_cycle;
-use crate::cycle::totals_by;
+use crate::reading::totals_by;
 use crate::turns::write;
 use amount::Amount;
 use book::Book;
+use cycle::fill_cycle;
 use refusal::Refusal;
 use whole::is_negative;
 use whole::magnitude;
@@ -13,33 +13,19 @@ ghost use mathlib.Core.Path.{_≡_};
 ghost use Prim.Native.Nat.{ℕ, _+_, _*_, _≤_, _<_};
 ghost use lib.ListN.{length, getD};
 ghost use Rattle.refusal.specs.Rows.{gives};
-ghost use Rattle.whole.specs.Sums.{sumOf};
 ghost use Rattle.amount.specs.Amounts.{largest};
 ghost use Rattle.units.specs.Rule.{totals};
 ghost use Rattle.book.specs.Books.{partners};
 ghost use Rattle.book.specs.Moves.{nextBook, lessOf};
 ghost use Rattle.bulk.specs.Runs.{written, numberSaid};
 ghost use Rattle.bulk.specs.Serving.{Fit, Served};
-ghost use Rattle.bulk.specs.Left.{Stands, leftSaid, Stepped};
-ghost use Rattle.bulk.specs.Cycle.{Weighed, Cycled};
-
-// The sum of the weights.
-pub(crate) fn sum_of(weights: [u32; Book::PARTNERS]) -> u64
-    ensures { λ r. ⌜ r ≡ sumOf weights ⌝ }
-{
-    let mut sum: u64 = 0;
-    let mut i = 0;
-    while i < Book::PARTNERS {
-        sum += weights[i] as u64;
-        i += 1;
-    }
-    sum
-}
+ghost use Rattle.bulk.specs.Left.{Sound, leftSaid, Stepped};
+ghost use Rattle.cycle.specs.Cycle.{Weighed, Cycled};
 
 // The number of a call of magnitude m at a net total: 0 where it is accepted.
-fn check_call(kind: u8, negative: bool, m: u64, net: u64) -> u8
+fn check_call(refund: bool, negative: bool, m: u64, net: u64) -> u8
     requires { ⌜ net ≤ largest ⌝ }
-    ensures { λ r. ⌜ r ≡ numberSaid (leftSaid kind negative m net) ⌝ }
+    ensures { λ r. ⌜ r ≡ numberSaid (leftSaid refund negative m net) ⌝ }
 {
     if Amount::L < m {
         return Refusal::Magnitude.number();
@@ -47,13 +33,13 @@ fn check_call(kind: u8, negative: bool, m: u64, net: u64) -> u8
     if negative {
         return Refusal::Negative.number();
     }
-    if kind == 0 {
-        if Amount::L < net + m {
-            return Refusal::Limit.number();
-        }
-    } else {
+    if refund {
         if net < m {
             return Refusal::Refund.number();
+        }
+    } else {
+        if Amount::L < net + m {
+            return Refusal::Limit.number();
         }
     }
     0
@@ -77,7 +63,7 @@ fn step(
     weights: [u32; Book::PARTNERS],
     sum: u64,
     table: &[u16],
-    kind: u8,
+    refund: bool,
     coefficient: i64,
     j: usize,
     net: u64,
@@ -89,26 +75,26 @@ fn step(
     requires { ⌜ Cycled weights sum (now table) ⌝ }
     requires { ⌜ (net ≤ largest) × (now held ≡ totals weights net) ⌝ }
     requires { ⌜ (j * partners + partners ≤ length (now payouts)) × (j < length (now numbers)) ⌝ }
-    ensures { λ r. ⌜ Stepped weights kind coefficient j net (now (payouts .entry)) (now (numbers .entry)) r (now (held .exit)) (now (payouts .exit)) (now (numbers .exit)) ⌝ }
+    ensures { λ r. ⌜ Stepped weights refund coefficient j net (now (payouts .entry)) (now (numbers .entry)) r (now (held .exit)) (now (payouts .exit)) (now (numbers .exit)) ⌝ }
 {
     let at = j * Book::PARTNERS;
     let m = magnitude(coefficient);
-    let number = check_call(kind, is_negative(coefficient), m, net);
+    let number = check_call(refund, is_negative(coefficient), m, net);
     numbers[j] = number;
     if number != 0 {
         write(payouts, at, [0; Book::PARTNERS]);
         return net;
     }
-    if kind == 0 {
-        let next = net + m;
+    if refund {
+        let next = net - m;
         let totals = totals_by(weights, sum, table, next);
-        pay(totals, *held, payouts, at);
+        pay(*held, totals, payouts, at);
         *held = totals;
         return next;
     }
-    let next = net - m;
+    let next = net + m;
     let totals = totals_by(weights, sum, table, next);
-    pay(*held, totals, payouts, at);
+    pay(totals, *held, payouts, at);
     *held = totals;
     next
 }
@@ -118,27 +104,27 @@ fn by_rows(
     book: Book,
     sum: u64,
     table: &[u16],
-    kinds: &[u8],
+    refunds: &[bool],
     coefficients: &[i64],
     payouts: &mut [u64],
     numbers: &mut [u8],
 ) -> u64
-    requires { ⌜ Stands book ⌝ }
+    requires { ⌜ Sound book ⌝ }
     requires { ⌜ Weighed (book .weights) sum ⌝ }
     requires { ⌜ Cycled (book .weights) sum (now table) ⌝ }
-    requires { ⌜ Fit (length (now kinds)) (length (now coefficients)) (length (now payouts)) (length (now numbers)) ⌝ }
-    ensures { λ r. ⌜ (r ≤ largest) × Served book (now (kinds .entry)) (now (coefficients .entry)) (now (payouts .entry)) (now (numbers .entry)) (nextBook book (gives r)) (now (payouts .exit)) (now (numbers .exit)) ⌝ }
+    requires { ⌜ Fit (length (now refunds)) (length (now coefficients)) (length (now payouts)) (length (now numbers)) ⌝ }
+    ensures { λ r. ⌜ (r ≤ largest) × Served book (now (refunds .entry)) (now (coefficients .entry)) (now (payouts .entry)) (now (numbers .entry)) (nextBook book (gives r)) (now (payouts .exit)) (now (numbers .exit)) ⌝ }
 {
     let weights = book.weights;
     let mut net = magnitude(book.net);
     let mut held = totals_by(weights, sum, table, net);
     let mut j = 0;
-    while j < kinds.len() {
+    while j < refunds.len() {
         net = step(
             weights,
             sum,
             table,
-            kinds[j],
+            refunds[j],
             coefficients[j],
             j,
             net,
@@ -155,25 +141,19 @@ fn by_rows(
 pub(crate) fn by_table(
     book: Book,
     sum: u64,
-    kinds: &[u8],
+    refunds: &[bool],
     coefficients: &[i64],
     payouts: &mut [u64],
     numbers: &mut [u8],
 ) -> Book
-    requires { ⌜ Stands book ⌝ }
+    requires { ⌜ Sound book ⌝ }
     requires { ⌜ Weighed (book .weights) sum ⌝ }
-    requires { ⌜ Fit (length (now kinds)) (length (now coefficients)) (length (now payouts)) (length (now numbers)) ⌝ }
-    ensures { λ r. ⌜ Served book (now (kinds .entry)) (now (coefficients .entry)) (now (payouts .entry)) (now (numbers .entry)) r (now (payouts .exit)) (now (numbers .exit)) ⌝ }
+    requires { ⌜ Fit (length (now refunds)) (length (now coefficients)) (length (now payouts)) (length (now numbers)) ⌝ }
+    ensures { λ r. ⌜ Served book (now (refunds .entry)) (now (coefficients .entry)) (now (payouts .entry)) (now (numbers .entry)) r (now (payouts .exit)) (now (numbers .exit)) ⌝ }
 {
-    let currency = book.currency;
     let weights = book.weights;
-    let mut table: [u16; 10_000] = [0; 10_000];
-    fill_cycle(weights, sum as u32, &mut table);
-    let net = by_rows(book, sum, &table, kinds, coefficients, payouts, numbers);
-    Book {
-        currency,
-        count: book.count,
-        weights,
-        net: signed(false, net),
-    }
+    let mut table: [u16; Book::WEIGHT_SUM as usize] = [0; Book::WEIGHT_SUM as usize];
+    fill_cycle(weights, &mut table);
+    let net = by_rows(book, sum, &table, refunds, coefficients, payouts, numbers);
+    book.at_net(signed(false, net))
 }

@@ -3,18 +3,16 @@ use amount::Amount;
 use book::Book;
 use book::Moved;
 use currency::line_of;
-use refusal::Checked;
 ghost use mathlib.Core.Path.{_≡_};
 ghost use Prim.Native.Nat.{_+_, _*_, _≤_, _<_};
 ghost use lib.ListN.{length};
-ghost use Rattle.refusal.specs.Rows.{meansOutcome};
 ghost use Rattle.book.specs.Books.{partners};
-ghost use Rattle.bulk.specs.Runs.{written, numberSaid};
+ghost use Rattle.bulk.specs.Runs.{written};
 ghost use Rattle.bulk.specs.Serving.{Fit, Calls, Turned, Served};
 
-// One call: kind 0 posts and any other number refunds the coefficient.
-pub(crate) fn call(book: Book, kind: u8, coefficient: i64) -> Moved
-    ensures { λ r. ⌜ Calls kind book coefficient r ⌝ }
+// One call: a refund of the coefficient, or a posting.
+fn call(book: Book, refund: bool, coefficient: i64) -> Moved
+    ensures { λ r. ⌜ Calls refund book coefficient r ⌝ }
 {
     let currency = book.currency;
     let line = line_of(currency);
@@ -23,20 +21,10 @@ pub(crate) fn call(book: Book, kind: u8, coefficient: i64) -> Moved
         scale: line.digits,
         coefficient,
     };
-    if kind == 0 {
-        book.post(amount)
-    } else {
+    if refund {
         book.refund(amount)
-    }
-}
-
-// The number of an outcome: 0 where the call is accepted.
-fn number_of(outcome: Checked) -> u8
-    ensures { λ r. ⌜ r ≡ numberSaid (meansOutcome outcome 0) ⌝ }
-{
-    match outcome {
-        Checked::Passed => 0,
-        Checked::Refused(refusal) => refusal.number(),
+    } else {
+        book.post(amount)
     }
 }
 
@@ -55,7 +43,7 @@ pub(crate) fn write(out: &mut [u64], at: usize, payouts: [u64; Book::PARTNERS])
 // Serves call j: its payouts and its number are written, and the next book is handed on.
 fn turn(
     book: Book,
-    kind: u8,
+    refund: bool,
     coefficient: i64,
     j: usize,
     payouts: &mut [u64],
@@ -63,31 +51,31 @@ fn turn(
 ) -> Book
     requires { ⌜ j * partners + partners ≤ length (now payouts) ⌝ }
     requires { ⌜ j < length (now numbers) ⌝ }
-    ensures { λ r. ⌜ Turned book kind coefficient j (now (payouts .entry)) (now (numbers .entry)) r (now (payouts .exit)) (now (numbers .exit)) ⌝ }
+    ensures { λ r. ⌜ Turned book refund coefficient j (now (payouts .entry)) (now (numbers .entry)) r (now (payouts .exit)) (now (numbers .exit)) ⌝ }
 {
-    let moved = call(book, kind, coefficient);
+    let moved = call(book, refund, coefficient);
     let paid = moved.payouts;
     write(payouts, j * Book::PARTNERS, paid);
     let outcome = moved.outcome;
-    numbers[j] = number_of(outcome);
+    numbers[j] = outcome.number();
     moved.book
 }
 
 // Serves all calls in turn.
 pub(crate) fn one_by_one(
     book: Book,
-    kinds: &[u8],
+    refunds: &[bool],
     coefficients: &[i64],
     payouts: &mut [u64],
     numbers: &mut [u8],
 ) -> Book
-    requires { ⌜ Fit (length (now kinds)) (length (now coefficients)) (length (now payouts)) (length (now numbers)) ⌝ }
-    ensures { λ r. ⌜ Served book (now (kinds .entry)) (now (coefficients .entry)) (now (payouts .entry)) (now (numbers .entry)) r (now (payouts .exit)) (now (numbers .exit)) ⌝ }
+    requires { ⌜ Fit (length (now refunds)) (length (now coefficients)) (length (now payouts)) (length (now numbers)) ⌝ }
+    ensures { λ r. ⌜ Served book (now (refunds .entry)) (now (coefficients .entry)) (now (payouts .entry)) (now (numbers .entry)) r (now (payouts .exit)) (now (numbers .exit)) ⌝ }
 {
     let mut last = book;
     let mut j = 0;
-    while j < kinds.len() {
-        last = turn(last, kinds[j], coefficients[j], j, payouts, numbers);
+    while j < refunds.len() {
+        last = turn(last, refunds[j], coefficients[j], j, payouts, numbers);
         j += 1;
     }
     last

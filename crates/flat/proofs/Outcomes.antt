@@ -1,6 +1,7 @@
 -- An outcome has the number and the blamed date of what it says, so that a struct which holds one is flattened to what its promise says.
 -- Assumes nothing.
 use mathlib.Core.Path.{_≡_, refl, _∙_, ap}
+use mathlib.Core.Bool.{Bool}
 use mathlib.Core.List.{List}
 use Prim.Native.Nat.{ℕ}
 use lib.IntN.{ℤ}
@@ -14,7 +15,7 @@ use Rattle.book.specs.declared.Book.{Book}
 use Rattle.book.specs.declared.Opened.{Opened}
 use Rattle.book.specs.declared.Moved.{Moved}
 use Rattle.book.specs.declared.Totals.{Totals}
-use Rattle.book.specs.Moves.{Answers, openSaid, Opens, totalsSaid, Runs}
+use Rattle.book.specs.Moves.{Answers, openSaid, Opens, totalsSaid, Tallies}
 use Rattle.bulk.specs.declared.Ran.{Ran}
 use Rattle.bulk.specs.Runs.{bookAfter, runSaid, Serves}
 use Rattle.flat.specs.declared.MkbBook.{MkbBook}
@@ -59,18 +60,18 @@ moved payouts given said r p =
     let book = said-book (r .outcome) _ said (p .outcome) given (r .book) _ (p .book) in
     λ i. record { refusal = number i; blamed = blamed i; book = book i; payouts = p .paid i }
 
-pub running : (b : Book) (r : Totals) → Runs b r → totalsFlat r ≡ runningOf (totalsSaid b)
+pub running : (b : Book) (r : Totals) → Tallies b r → totalsFlat r ≡ runningOf (totalsSaid b)
 running b r p =
     let number = said-number (r .outcome) (r .totals) (totalsSaid b) (p .outcome) in
     let blamed = said-blamed (r .outcome) (r .totals) (totalsSaid b) (p .outcome) in λ i. record { refusal = number i; blamed = blamed i; totals = p .totals i }
 
-pub served : (given : MkbBook) (kinds : List ℕ) (coefficients : List ℤ) (payouts numbers payouts′ numbers′ : List ℕ) (r : Ran)
-    → Serves (bookFrom given) kinds coefficients payouts numbers r payouts′ numbers′
-    → ranFlat given r ≡ ranOf given kinds coefficients (runSaid (length kinds) (length coefficients) (length payouts) (length numbers))
-served given kinds coefficients payouts numbers payouts′ numbers′ r p =
-    let said : Said ℕ = runSaid (length kinds) (length coefficients) (length payouts) (length numbers) in
+pub served : (given : MkbBook) (refunds : List Bool) (coefficients : List ℤ) (payouts numbers payouts′ numbers′ : List ℕ) (r : Ran)
+    → Serves (bookFrom given) refunds coefficients payouts numbers r payouts′ numbers′
+    → ranFlat given r ≡ ranOf given refunds coefficients (runSaid (bookFrom given) (length refunds) (length coefficients) (length payouts) (length numbers))
+served given refunds coefficients payouts numbers payouts′ numbers′ r p =
+    let said : Said ℕ = runSaid (bookFrom given) (length refunds) (length coefficients) (length payouts) (length numbers) in
     let number = said-number (r .outcome) (r .served) said (p .outcome) in
     let blamed = said-blamed (r .outcome) (r .served) said (p .outcome) in
-    let next = p .book ∙ ap (bookAfter (bookFrom given) kinds coefficients) (p .served) in
+    let next = p .book ∙ ap (bookAfter (bookFrom given) refunds coefficients) (p .served) in
     let book = said-book (r .outcome) (r .served) said (p .outcome) given (r .book) _ next in
     λ i. record { refusal = number i; blamed = blamed i; book = book i; served = p .served i }

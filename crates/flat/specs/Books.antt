@@ -1,5 +1,6 @@
 -- What C is answered by the book's calls: the number, the date blamed (none: 0), and what the base hands back. A refused posting, refund or run
 -- hands the given book back as C gave it. Cited by the promises on the book. Assumes nothing.
+use mathlib.Core.Bool.{Bool}
 use mathlib.Core.List.{List}
 use Prim.Native.Nat.{ℕ}
 use lib.IntN.{ℤ, pos}
@@ -50,12 +51,12 @@ abbrev pub runningOf : Said (List ℕ) → MkbTotals
 runningOf said = record { refusal = refusalOf said; blamed = blamedOf said; totals = totalsOf said }
 
 -- a run of movements on a book, by what it says of the lists
-abbrev pub ranOf : MkbBook → (kinds : List ℕ) (coefficients : List ℤ) → Said ℕ → MkbRan
-ranOf given kinds coefficients said =
+abbrev pub ranOf : MkbBook → (refunds : List Bool) (coefficients : List ℤ) → Said ℕ → MkbRan
+ranOf given refunds coefficients said =
     record {
       refusal = refusalOf said;
       blamed = blamedOf said;
-      book = bookBehind said given (bookAfter (bookFrom given) kinds coefficients (servedOf said));
+      book = bookBehind said given (bookAfter (bookFrom given) refunds coefficients (servedOf said));
       served = servedOf said;
     }
 

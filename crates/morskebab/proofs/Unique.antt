@@ -1,6 +1,7 @@
 -- Every promise of the face is an equation: the answer is a term over what C gave, and so is every lent place. Two answers that such a promise
 -- allows are equal, and so are the lent places that they leave. Assumes nothing.
 use mathlib.Core.Path.{_≡_, sym, _∙_, ap}
+use mathlib.Core.Bool.{Bool}
 use mathlib.Core.List.{List}
 use Prim.Native.Nat.{ℕ}
 use lib.IntN.{ℤ}
@@ -26,16 +27,16 @@ pub one-share : (a : MkbAmount) (weights : List ℕ) (out : List ℤ) (r s : ℕ
 one-share a weights out r s left left′ p q = (one-answer (p .0) (q .0), one-answer (p .1) (q .1))
 
 -- what `mkb_run` promises of its answer and of the places that it was lent, which are those after as many calls as the answer says were served
-pub record Ran (book : MkbBook) (kinds : List ℕ) (coefficients : List ℤ) (payouts numbers : List ℕ) (r : MkbRan) (paid said : List ℕ) : Type 0 where
-  pub answer : r ≡ ranOf book kinds coefficients (runSaid (length kinds) (length coefficients) (length payouts) (length numbers))
-  pub pays : paid ≡ payoutsAfter (bookFrom book) kinds coefficients payouts (r .served)
-  pub numbered : said ≡ numbersAfter (bookFrom book) kinds coefficients numbers (r .served)
+pub record Ran (book : MkbBook) (refunds : List Bool) (coefficients : List ℤ) (payouts numbers : List ℕ) (r : MkbRan) (paid said : List ℕ) : Type 0 where
+  pub answer : r ≡ ranOf book refunds coefficients (runSaid (bookFrom book) (length refunds) (length coefficients) (length payouts) (length numbers))
+  pub pays : paid ≡ payoutsAfter (bookFrom book) refunds coefficients payouts (r .served)
+  pub numbered : said ≡ numbersAfter (bookFrom book) refunds coefficients numbers (r .served)
 
-pub one-run : (book : MkbBook) (kinds : List ℕ) (coefficients : List ℤ) (payouts numbers : List ℕ) (r s : MkbRan) (paid said paid′ said′ : List ℕ)
-    → Ran book kinds coefficients payouts numbers r paid said → Ran book kinds coefficients payouts numbers s paid′ said′
+pub one-run : (book : MkbBook) (refunds : List Bool) (coefficients : List ℤ) (payouts numbers : List ℕ) (r s : MkbRan) (paid said paid′ said′ : List ℕ)
+    → Ran book refunds coefficients payouts numbers r paid said → Ran book refunds coefficients payouts numbers s paid′ said′
     → (r ≡ s) × ((paid ≡ paid′) × (said ≡ said′))
-one-run book kinds coefficients payouts numbers r s paid said paid′ said′ p q =
+one-run book refunds coefficients payouts numbers r s paid said paid′ said′ p q =
     let same = one-answer (p .answer) (q .answer) in
-    let payouts-same = ap (λ (a : MkbRan). payoutsAfter (bookFrom book) kinds coefficients payouts (a .served)) same in
-    let numbers-same = ap (λ (a : MkbRan). numbersAfter (bookFrom book) kinds coefficients numbers (a .served)) same in
+    let payouts-same = ap (λ (a : MkbRan). payoutsAfter (bookFrom book) refunds coefficients payouts (a .served)) same in
+    let numbers-same = ap (λ (a : MkbRan). numbersAfter (bookFrom book) refunds coefficients numbers (a .served)) same in
     (same, (p .pays ∙ (payouts-same ∙ sym (q .pays)), p .numbered ∙ (numbers-same ∙ sym (q .numbered))))

@@ -10,20 +10,20 @@ ghost use Rattle.bulk.specs.Runs.{runSaid, servedOf, payoutsAfter, numbersAfter
 ghost use Rattle.flat.specs.Given.{bookFrom};
 ghost use Rattle.flat.specs.Books.{ranOf};
 
-// The movements in turn, kind 0 a posting and any other number a refund of the coefficient: call j's payouts at the sixteen places from
-// 16 x j on and its number, 0 where it is accepted, at place j. The places past the run stay, and all where it is refused: refusal 11.
+// The movements in turn, where `refunds` has true a refund of the coefficient and else a posting: call j's payouts at the sixteen places
+// from 16 x j on and its number, 0 where it is accepted, at place j. The places past the run stay, and all where it is refused.
 #[no_mangle]
 pub extern "C" fn mkb_run(
     book: MkbBook,
-    kinds: &[u8],
+    refunds: &[bool],
     coefficients: &[i64],
     payouts: &mut [u64],
     numbers: &mut [u8],
 ) -> MkbRan
-    ensures said { λ r. ⌜ r ≡ ranOf book (now (kinds .entry)) (now (coefficients .entry)) (runSaid (length (now (kinds .entry))) (length (now (coefficients .entry))) (length (now (payouts .entry))) (length (now (numbers .entry)))) ⌝ }
-    ensures paid { λ r. ⌜ now (payouts .exit) ≡ payoutsAfter (bookFrom book) (now (kinds .entry)) (now (coefficients .entry)) (now (payouts .entry)) (r .served) ⌝ }
-    ensures numbered { λ r. ⌜ now (numbers .exit) ≡ numbersAfter (bookFrom book) (now (kinds .entry)) (now (coefficients .entry)) (now (numbers .entry)) (r .served) ⌝ }
+    ensures said { λ r. ⌜ r ≡ ranOf book (now (refunds .entry)) (now (coefficients .entry)) (runSaid (bookFrom book) (length (now (refunds .entry))) (length (now (coefficients .entry))) (length (now (payouts .entry))) (length (now (numbers .entry)))) ⌝ }
+    ensures paid { λ r. ⌜ now (payouts .exit) ≡ payoutsAfter (bookFrom book) (now (refunds .entry)) (now (coefficients .entry)) (now (payouts .entry)) (r .served) ⌝ }
+    ensures numbered { λ r. ⌜ now (numbers .exit) ≡ numbersAfter (bookFrom book) (now (refunds .entry)) (now (coefficients .entry)) (now (numbers .entry)) (r .served) ⌝ }
 {
-    let ran = run(given_book(book), kinds, coefficients, payouts, numbers);
+    let ran = run(given_book(book), refunds, coefficients, payouts, numbers);
     flat_ran(book, ran)
 }

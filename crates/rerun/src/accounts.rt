@@ -1,5 +1,4 @@
 // The current book with what is counted of it.
-use crate::asking::POST;
 use crate::tally::Tally;
 use crate::tally::counted;
 use crate::tally::no_calls;
@@ -72,7 +71,7 @@ pub(crate) fn opened(signs: &[bool], values: &[u64], count: usize, weights: &mut
 pub(crate) fn served(
     account: Account,
     count: usize,
-    kinds: &[u8],
+    kinds: &[bool],
     coefficients: &[i64],
     payouts: &mut [u64],
     numbers: &mut [u8],
@@ -99,18 +98,18 @@ pub(crate) fn served(
     }
 }
 
-fn moved(book: Book, kind: u8, amount: Amount) -> Moved {
-    if kind == POST {
-        book.post(amount)
-    } else {
+fn moved(book: Book, kind: bool, amount: Amount) -> Moved {
+    if kind {
         book.refund(amount)
+    } else {
+        book.post(amount)
     }
 }
 
 // One call as a run of calls.
 fn counted_one(
     tally: Tally,
-    kind: u8,
+    kind: bool,
     coefficient: i64,
     payouts: [u64; Book::PARTNERS],
     number: u8,
@@ -123,7 +122,7 @@ fn counted_one(
 
 // With one call served. An amount that is not in the book's currency at its own digits is refused at any net total, so that such a call
 // may go before those that wait.
-pub(crate) fn called(account: Account, kind: u8, amount: Amount) -> Account {
+pub(crate) fn called(account: Account, kind: bool, amount: Amount) -> Account {
     let opening = account.opening;
     let book = account.book;
     let tally = account.tally;

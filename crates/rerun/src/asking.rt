@@ -5,9 +5,9 @@ use intake::next_word;
 use intake::read_numbers;
 
 // The kinds of a call, as a run takes them.
-pub const POST: u8 = 0;
+pub const POST: bool = false;
 
-pub const REFUND: u8 = 1;
+pub const REFUND: bool = true;
 
 pub enum Asked {
     // an empty line or a comment
@@ -17,7 +17,7 @@ pub enum Asked {
     // an opening of so many numbers
     Open(usize),
     // a call of this kind, of three numbers
-    Call(u8),
+    Call(bool),
 }
 
 enum Verb {
@@ -40,7 +40,7 @@ fn verb_of(word: &[u8]) -> Verb {
     Verb::Other
 }
 
-fn call_of(kind: u8, count: usize) -> Asked {
+fn call_of(kind: bool, count: usize) -> Asked {
     if count == 3 {
         Asked::Call(kind)
     } else {

@@ -24,7 +24,7 @@ pub enum Met {
     // an opening of so many numbers
     Open(usize),
     // a call of this kind whose amount is not in the book's currency at its own digits
-    Call(u8),
+    Call(bool),
     // a line whose end is yet to come
     More,
     // the end of the input
@@ -89,9 +89,9 @@ fn is_own(currency: u8, digits: u8, signs: &[bool], values: &[u64]) -> bool {
 // With one more call waiting.
 fn waiting(
     mut at: Gathering,
-    kind: u8,
+    kind: bool,
     coefficient: i64,
-    kinds: &mut [u8],
+    kinds: &mut [bool],
     coefficients: &mut [i64],
 ) -> Gathering
     requires { ⌜ (at .count < length (now kinds)) × (at .count < length (now coefficients)) ⌝ }
@@ -112,7 +112,7 @@ fn taken(
     at: Gathering,
     signs: &[bool],
     values: &[u64],
-    kinds: &mut [u8],
+    kinds: &mut [bool],
     coefficients: &mut [i64],
 ) -> Gathering
     requires { ⌜ Goes (at .met) ⌝ }
@@ -139,7 +139,7 @@ fn step(
     mut at: Gathering,
     signs: &mut [bool],
     values: &mut [u64],
-    kinds: &mut [u8],
+    kinds: &mut [bool],
     coefficients: &mut [i64],
 ) -> Gathering
     requires { ⌜ Goes (at .met) ⌝ }
@@ -181,7 +181,7 @@ pub(crate) fn gather(
     start: Gathering,
     signs: &mut [bool],
     values: &mut [u64],
-    kinds: &mut [u8],
+    kinds: &mut [bool],
     coefficients: &mut [i64],
 ) -> Gathering
     requires { ⌜ start .count ≤ length (now kinds) ⌝ }

@@ -34,7 +34,7 @@ fn gathered(
     text: &[u8],
     signs: &mut [bool],
     values: &mut [u64],
-    kinds: &mut [u8],
+    kinds: &mut [bool],
     coefficients: &mut [i64],
 ) -> Rerun
     requires { ⌜ Stands rerun (length (now text)) (length (now kinds)) ⌝ }
@@ -67,7 +67,7 @@ fn dealt(
     signs: &[bool],
     values: &[u64],
     weights: &mut [u32],
-    kinds: &[u8],
+    kinds: &[bool],
     coefficients: &[i64],
     payouts: &mut [u64],
     numbers: &mut [u8],
@@ -103,7 +103,7 @@ fn turn(
     signs: &mut [bool],
     values: &mut [u64],
     weights: &mut [u32],
-    kinds: &mut [u8],
+    kinds: &mut [bool],
     coefficients: &mut [i64],
     payouts: &mut [u64],
     numbers: &mut [u8],
@@ -162,7 +162,7 @@ fn run(
     signs: &mut [bool],
     values: &mut [u64],
     weights: &mut [u32],
-    kinds: &mut [u8],
+    kinds: &mut [bool],
     coefficients: &mut [i64],
     payouts: &mut [u64],
     numbers: &mut [u8],
@@ -201,7 +201,7 @@ pub(crate) fn serve(fd: i32) {
     let mut signs = [false; NUMBERS];
     let mut values = [0u64; NUMBERS];
     let mut weights = [0u32; NUMBERS];
-    let mut kinds = [0u8; CALLS];
+    let mut kinds = [false; CALLS];
     let mut coefficients = [0i64; CALLS];
     let mut payouts = [0u64; PAYOUTS];
     let mut numbers = [0u8; CALLS];

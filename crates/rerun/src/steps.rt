@@ -99,7 +99,7 @@ pub(crate) fn refilled(fd: i32, mut rerun: Rerun, text: &mut [u8]) -> Rerun
 // With the calls that wait served.
 pub(crate) fn flushed(
     mut rerun: Rerun,
-    kinds: &[u8],
+    kinds: &[bool],
     coefficients: &[i64],
     payouts: &mut [u64],
     numbers: &mut [u8],
@@ -141,7 +141,7 @@ fn reported(rerun: Rerun, out: &mut [u8]) -> Rerun
 // With the current book ended: its last calls served, and its report put.
 pub(crate) fn ended(
     rerun: Rerun,
-    kinds: &[u8],
+    kinds: &[bool],
     coefficients: &[i64],
     payouts: &mut [u64],
     numbers: &mut [u8],
@@ -171,7 +171,7 @@ pub(crate) fn reopened(
 }
 
 // With a call served that could not wait.
-pub(crate) fn calling(mut rerun: Rerun, kind: u8, signs: &[bool], values: &[u64]) -> Rerun
+pub(crate) fn calling(mut rerun: Rerun, kind: bool, signs: &[bool], values: &[u64]) -> Rerun
     ensures { λ r. ⌜ Same rerun r ⌝ }
 {
     let account = rerun.account;

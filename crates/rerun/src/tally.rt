@@ -40,10 +40,10 @@ pub(crate) fn sum_from(numbers: &[u64], from: usize) -> u64 {
 }
 
 // Where a kind of call is counted: 0 for a posting, 1 for a refund.
-fn side(kind: u8) -> usize
+fn side(kind: bool) -> usize
     ensures { λ r. ⌜ r < 2 ⌝ }
 {
-    if kind == 0 { 0 } else { 1 }
+    if kind { 1 } else { 0 }
 }
 
 fn count_number(times: &mut [u64; NUMBERS], number: u8) {
@@ -78,7 +78,7 @@ fn add_payouts(sums: &mut [u64; 32], side: usize, payouts: &[u64], from: usize)
 // With a run of calls counted.
 pub(crate) fn counted(
     tally: Tally,
-    kinds: &[u8],
+    kinds: &[bool],
     coefficients: &[i64],
     payouts: &[u64],
     numbers: &[u8],

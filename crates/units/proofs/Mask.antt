@@ -3,16 +3,14 @@
 use mathlib.Core.Path.{_≡_, refl, sym, ap, _∙_}
 use mathlib.Core.List.{List}
 use Prim.Native.Nat.{ℕ, zero, suc, _+_, _-_, _*_, _/_, _%_, _^_, _≤_, _<_}
-use native.Mathlib.Nat.{le-refl, add-zero, not-suc-le-zero, pow-suc, pow-succ', div-eq-of-lt, add-mul-div-left, mul-le-mul-left, mod-add-div', add-mul-div-right}
+use native.Mathlib.Nat.{le-refl, add-zero, pow-suc, pow-succ', div-eq-of-lt, add-mul-div-left, mul-le-mul-left, mod-add-div', add-mul-div-right}
 use native.Mathlib.Numerals.{add-one}
 use native.Mathlib.Decide.{le-ind}
 use native.Mathlib.Omega.{arith}
-use lib.ListN.{length, getD, set, replicate, length-set}
-use lib.Seq.{getD-set-same, getD-set-other}
+use lib.ListN.{length, getD, replicate}
 use Rattle.units.specs.Rule.{sumOf, takerOf, give, totals}
 use Rattle.units.specs.Window.{lo}
-use Rattle.units.specs.Mask.{bitAt, maskOf, mask, fillRows}
-use Rattle.whole.proofs.Sums.{and-last}
+use Rattle.units.specs.Mask.{bitAt, maskOf, mask}
 use Rattle.units.proofs.Repeats.{by-cycles}
 use Rattle.units.proofs.Straddle.{ahead-bit, ahead-end}
 
@@ -109,26 +107,3 @@ mask-step ws held n i = rw add-one
 pub mask-end : (ws : List ℕ) (n : ℕ) → mask ws n ≡ maskOf ws (totals ws n) n (length ws)
 unfolding mask
 mask-end ws n = refl
-
--- the rows written below k
-module _ (ws table : List ℕ) where
-  pub length-rows : (k : ℕ) → length (fillRows ws table k) ≡ length table
-  unfolding fillRows
-  length-rows zero = refl
-  length-rows (suc k) = length-set (fillRows ws table k) k (mask ws k) ∙ length-rows k
-
-  pub rows-start : fillRows ws table 0 ≡ table
-  unfolding fillRows
-  rows-start = refl
-
-  pub rows-step : (k : ℕ) → fillRows ws table (k + 1) ≡ set (fillRows ws table k) k (mask ws k)
-  unfolding fillRows
-  rows-step k = rw add-one
-
-  pub rows-end : (k n : ℕ) → k ≤ length table → n < k → getD (fillRows ws table k) n 0 ≡ mask ws n
-  unfolding fillRows
-  rows-end zero n h l = absurd (not-suc-le-zero l)
-  rows-end (suc k) n h l =
-      and-last (λ j. getD (set (fillRows ws table k) k (mask ws k)) j 0 ≡ mask ws j) k
-      (λ j b. getD-set-other (fillRows ws table k) k j (mask ws k) 0 (omega arith) ∙ rows-end k j (omega arith) b)
-      (getD-set-same (fillRows ws table k) k (mask ws k) 0 (rw length-rows h)) n l

@@ -2,7 +2,7 @@
 -- above its share rounded down. That the totals come out is in proofs/Mask.antt. Assumes nothing.
 use mathlib.Core.List.{List}
 use Prim.Native.Nat.{ℕ, zero, suc, _+_, _-_, _*_, _^_}
-use lib.ListN.{length, getD, set}
+use lib.ListN.{length, getD}
 use Rattle.units.specs.Rule.{totals}
 use Rattle.units.specs.Window.{lo, aheadAt}
 
@@ -18,8 +18,3 @@ maskOf ws held n (suc i) = maskOf ws held n i + 2 ^ i * (getD held i 0 - lo ws n
 -- row n
 unfoldable pub mask : (ws : List ℕ) (n : ℕ) → ℕ
 mask ws n = maskOf ws (totals ws n) n (length ws)
-
--- the rows below k written into a table
-unfoldable pub fillRows : (ws table : List ℕ) (k : ℕ) → List ℕ
-fillRows ws table zero = table
-fillRows ws table (suc k) = set (fillRows ws table k) k (mask ws k)

@@ -8,8 +8,8 @@ use lib.IntN.{pos}
 use lib.ListN.{length}
 use Rattle.refusal.specs.declared.Checked.the-variants.{Passed}
 use Rattle.refusal.specs.Rows.{checkOf}
-use Rattle.book.specs.Moves.{openBook}
-use Rattle.book.proofs.Answered.{openRows, open-fit, open-refused, open-passed}
+use Rattle.book.specs.Moves.{openBook, openRows}
+use Rattle.book.proofs.Answered.{open-fit, open-refused, open-passed}
 use Rattle.book.proofs.Book.open.Statement.{statement}
 use Rattle.book.proofs.Book.open.Tie as tie
 

@@ -6,8 +6,8 @@ use borrow.Author.Needs.{needs}
 use Rattle.refusal.specs.declared.Checked.the-variants.{Passed}
 use Rattle.refusal.specs.Rows.{checkOf}
 use Rattle.amount.specs.Amounts.{largest}
-use Rattle.book.specs.Moves.{netOf, unitsOf}
-use Rattle.book.proofs.Answered.{Fit, postRows, post-fit, post-refused, post-passed}
+use Rattle.book.specs.Moves.{netOf, unitsOf, postRows}
+use Rattle.book.proofs.Answered.{Fit, post-fit, post-refused, post-passed}
 use Rattle.book.proofs.Book.post.Statement.{statement}
 use Rattle.book.proofs.Book.post.Tie as tie
 
@@ -41,7 +41,7 @@ add-next c = omega (arith, fit c .1, c .before .net-of .ensures, c .units-of .en
 moved-requires : tie.Need-moved-requires
 moved-requires c κs =
     let f = fit c .0 in
-    (f .some, f .most, omega arith, omega (arith, fit c .1, c .before .net-of .ensures, c .units-of .ensures), omega (arith, fit c .1, c .before .net-of .ensures, c .units-of .ensures))
+    (f .some, f .most, omega (arith, fit c .1, c .before .net-of .ensures, c .units-of .ensures))
 
 returns : tie.Need-returns
 returns c =

@@ -5,8 +5,8 @@ use native.Mathlib.Omega.{arith}
 use borrow.Author.Needs.{needs}
 use Rattle.refusal.specs.declared.Checked.the-variants.{Passed}
 use Rattle.refusal.specs.Rows.{checkOf}
-use Rattle.book.specs.Moves.{netOf, unitsOf}
-use Rattle.book.proofs.Answered.{Fit, refundRows, refund-fit, refund-refused, refund-passed}
+use Rattle.book.specs.Moves.{netOf, unitsOf, refundRows}
+use Rattle.book.proofs.Answered.{Fit, refund-fit, refund-refused, refund-passed}
 use Rattle.book.proofs.Book.refund.Statement.{statement}
 use Rattle.book.proofs.Book.refund.Tie as tie
 
@@ -40,7 +40,7 @@ sub-next c = omega (arith, fit c .1, c .before .net-of .ensures, c .units-of .en
 moved-requires : tie.Need-moved-requires
 moved-requires c κs =
     let f = fit c .0 in
-    (f .some, f .most, omega arith, omega (arith, f .net, c .before .net-of .ensures), omega (arith, f .net, c .before .net-of .ensures))
+    (f .some, f .most, omega (arith, fit c .1, c .before .net-of .ensures, c .units-of .ensures))
 
 returns : tie.Need-returns
 returns c =

@@ -1,16 +1,18 @@
 -- A refused check is the row that it names; what passed is within the limits of the running totals. Assumes nothing.
 use mathlib.Core.Path.{_≡_, sym, ap, _∙_}
-use native.Mathlib.Omega.{arith}
 use borrow.Author.Needs.{needs}
 use Rattle.refusal.specs.declared.Checked.the-variants.{Passed}
 use Rattle.refusal.specs.Rows.{checkOf}
 use Rattle.units.specs.Rule.{totals}
-use Rattle.book.proofs.Answered.{runRows, run-fit, run-refused, run-passed}
+use Rattle.running.proofs.Total.{totals-are}
+use Rattle.book.specs.Books.{bookRows}
+use Rattle.book.proofs.Given.{book-alone, book-fit}
+use Rattle.book.proofs.Answered.{totals-refused, totals-passed}
 use Rattle.book.proofs.Book.totals.Statement.{statement}
 use Rattle.book.proofs.Book.totals.Tie as tie
 
-check-book-requires : tie.Need-check-book-requires
-check-book-requires c κs = search needs
+check-requires : tie.Need-check-requires
+check-requires c κs = search needs
 
 enum-known-refusal : tie.Need-enum-known-refusal
 enum-known-refusal c = search needs
@@ -18,42 +20,36 @@ enum-known-refusal c = search needs
 enum-told : tie.Need-enum-told
 enum-told c = search needs
 
-passed : (c : tie.After-enum-told) → checkOf (runRows (c .before .before .before .args .self)) ≡ Passed
-passed c = sym (c .before .before .check-book .ensures) ∙ c .enum-told .given .1
-
-sum-from-requires : tie.Need-sum-from-requires
-sum-from-requires c κs = search needs
+passed : (c : tie.After-enum-told) → checkOf (bookRows (c .before .before .before .args .self)) ≡ Passed
+passed c = sym (book-alone (c .before .before .before .args .self)) ∙ sym (c .before .before .check .ensures) ∙ c .enum-told .given .1
 
 net-of-requires : tie.Need-net-of-requires
 net-of-requires c κs = search needs
 
-running-requires : tie.Need-running-requires
-running-requires c κs =
-    let told = c .before .before .before in
-    let fit = run-fit (told .before .before .before .args .self) (passed told) in
-    let sum = c .before .sum-from .ensures in
-    (sum, omega (arith, fit .1, sum), omega (arith, fit .2, sum), omega (arith, fit .0, c .net-of .ensures))
+totals-at-requires : tie.Need-totals-at-requires
+totals-at-requires c κs = search needs
 
 returns : tie.Need-returns
 returns c =
     let s = c .before .before .before in
-    run-refused (s .before .args .self) (c .before .refusal .given .0 .0) (sym (s .check-book .ensures) ∙ c .before .refusal .given .1)
+    totals-refused (s .before .args .self) (c .before .refusal .given .0 .0) (sym (book-alone (s .before .args .self)) ∙ sym (s .check .ensures) ∙ c .before .refusal .given .1)
 
 returns-2 : tie.Need-returns-2
 returns-2 c =
-    let told = c .before .before .before .before in
+    let told = c .before .before .before in
     let b = told .before .before .before .args .self in
-    run-passed b (c .running .result) (passed told) (c .running .ensures ∙ ap (totals (b .weights)) (c .before .net-of .ensures))
+    let fit = book-fit b (passed told) in
+    totals-passed b (c .totals-at .result) (passed told)
+    (c .totals-at .ensures ∙ totals-are (b .weights) (fit .1) (fit .2) _ ∙ ap (totals (b .weights)) (c .before .net-of .ensures))
 
 pub totals-spec : {M : Type 1} → statement M
 totals-spec =
     tie.close
     (tie.spec
-    check-book-requires
+    check-requires
     enum-known-refusal
     enum-told
-    sum-from-requires
     net-of-requires
-    running-requires
+    totals-at-requires
     returns
     returns-2)

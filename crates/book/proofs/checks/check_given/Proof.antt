@@ -3,7 +3,7 @@ use mathlib.Core.Path.{sym, ap, _∙_}
 use mathlib.Core.Bool.{not}
 use borrow.Author.Needs.{needs}
 use borrow.Author.Tests.{lt-ltb, le-ltb, eq-eqb, ne-eqb}
-use Rattle.book.specs.Books.{givenRows}
+use Rattle.book.specs.Checks.{givenRows}
 use Rattle.book.proofs.checks.check_given.Statement.{statement}
 use Rattle.book.proofs.checks.check_given.Tie as tie
 
@@ -48,10 +48,10 @@ unfolding givenRows
 returns-5 c =
     let b = c .before .before in
     rw (
-      le-ltb _ _ (b .before .before .before .before .if1 .left),
-      sym (b .before .before .before .not-own-digits .ensures) ∙ b .before .before .if2 .left,
-      le-ltb _ _ (b .before .if3 .left),
-      le-ltb _ _ (b .if4 .left),
+      le-ltb _ _ (c .before .before .before .before .before .before .if1 .left),
+      sym (c .before .before .before .before .before .not-own-digits .ensures) ∙ c .before .before .before .before .if2 .left,
+      le-ltb _ _ (c .before .before .before .if3 .left),
+      le-ltb _ _ (c .before .before .if4 .left),
       lt-ltb _ _ (c .if5 .taken),
     )
 
@@ -61,11 +61,11 @@ returns-6 c =
     let k = c .before .before in
     let b = k .before .before in
     rw (
-      le-ltb _ _ (b .before .before .before .before .if1 .left),
-      sym (b .before .before .before .not-own-digits .ensures) ∙ b .before .before .if2 .left,
-      le-ltb _ _ (b .before .if3 .left),
-      le-ltb _ _ (b .if4 .left),
-      le-ltb _ _ (k .if5 .left),
+      le-ltb _ _ (c .before .before .before .before .before .before .before .before .if1 .left),
+      sym (c .before .before .before .before .before .before .before .not-own-digits .ensures) ∙ c .before .before .before .before .before .before .if2 .left,
+      le-ltb _ _ (c .before .before .before .before .before .if3 .left),
+      le-ltb _ _ (c .before .before .before .before .if4 .left),
+      le-ltb _ _ (c .before .before .if5 .left),
       lt-ltb _ _ (c .if6 .taken),
     )
 
@@ -76,12 +76,12 @@ returns-7 c =
     let k = l .before .before in
     let b = k .before .before in
     rw (
-      le-ltb _ _ (b .before .before .before .before .if1 .left),
-      sym (b .before .before .before .not-own-digits .ensures) ∙ b .before .before .if2 .left,
-      le-ltb _ _ (b .before .if3 .left),
-      le-ltb _ _ (b .if4 .left),
-      le-ltb _ _ (k .if5 .left),
-      le-ltb _ _ (l .if6 .left),
+      le-ltb _ _ (c .before .before .before .before .before .before .before .before .before .before .before .if1 .left),
+      sym (c .before .before .before .before .before .before .before .before .before .before .not-own-digits .ensures) ∙ c .before .before .before .before .before .before .before .before .before .if2 .left,
+      le-ltb _ _ (c .before .before .before .before .before .before .before .before .if3 .left),
+      le-ltb _ _ (c .before .before .before .before .before .before .before .if4 .left),
+      le-ltb _ _ (c .before .before .before .before .before .if5 .left),
+      le-ltb _ _ (c .before .before .before .if6 .left),
       ap not (ne-eqb _ _ (c .if7 .taken)),
     )
 
@@ -92,12 +92,12 @@ returns-8 c =
     let k = l .before .before in
     let b = k .before .before in
     rw (
-      le-ltb _ _ (b .before .before .before .before .if1 .left),
-      sym (b .before .before .before .not-own-digits .ensures) ∙ b .before .before .if2 .left,
-      le-ltb _ _ (b .before .if3 .left),
-      le-ltb _ _ (b .if4 .left),
-      le-ltb _ _ (k .if5 .left),
-      le-ltb _ _ (l .if6 .left),
+      le-ltb _ _ (c .before .before .before .before .before .before .before .before .before .before .before .if1 .left),
+      sym (c .before .before .before .before .before .before .before .before .before .before .not-own-digits .ensures) ∙ c .before .before .before .before .before .before .before .before .before .if2 .left,
+      le-ltb _ _ (c .before .before .before .before .before .before .before .before .if3 .left),
+      le-ltb _ _ (c .before .before .before .before .before .before .before .if4 .left),
+      le-ltb _ _ (c .before .before .before .before .before .if5 .left),
+      le-ltb _ _ (c .before .before .before .if6 .left),
       ap not (eq-eqb _ _ (c .if7 .left)),
     )
 

@@ -11,8 +11,9 @@ use Rattle.refusal.specs.Rows.{Row, checkOf}
 use Rattle.whole.specs.Whole.{negative}
 use Rattle.amount.specs.declared.Amount.{Amount}
 use Rattle.book.specs.declared.Book.{Book}
-use Rattle.book.specs.Books.{givenRows, weightRows, signRows}
-use Rattle.book.specs.Moves.{netOf, unitsOf, moveRows}
+use Rattle.book.specs.Books.{netOf, weightRows, withBook}
+use Rattle.book.specs.Moves.{unitsOf, moveRows}
+use Rattle.book.specs.Checks.{givenRows, signRows}
 use Rattle.refusal.proofs.Joined.{front-refused, front-passed}
 use Rattle.book.proofs.checks.check_move.Statement.{statement}
 use Rattle.book.proofs.checks.check_move.Tie as tie
@@ -58,30 +59,30 @@ abbrev standing : Book → Amount → List Row
 standing b a = weightRows (b .count) (b .weights) ++ signRows (negative (a .coefficient)) (negative (b .net))
 
 front : (c : tie.After-check-given)
-    → c .check-given .result ≡ checkOf (given (c .before .before .before .args .book) (c .before .before .before .args .amount))
+    → c .check-given .result ≡ checkOf (given (c .before .before .before .before .before .args .book) (c .before .before .before .before .before .args .amount))
 front c =
-    let a = c .before .before .before .args in
+    let a = c .before .before .before .before .before .args in
     c .check-given .ensures
     ∙ ap₂ (λ (m n : ℕ). checkOf (givenRows (a .amount .scale) m (a .amount .currency) n (a .book .currency)))
-    (c .before .before .units-of .ensures) (c .before .net-of .ensures)
+    (c .before .before .before .before .units-of .ensures) (c .before .before .before .net-of .ensures)
 
 returns : tie.Need-returns
-unfolding moveRows
+unfolding moveRows withBook givenRows
 returns c =
     let s = c .before .before .before in
-    let a = s .before .before .before .args in
+    let a = s .before .before .before .before .before .args in
     sym (front-refused (given (a .book) (a .amount)) (standing (a .book) (a .amount)) (c .before .refusal .given .0 .0) (sym (front s) ∙ c .before .refusal .given .1))
 
 returns-2 : tie.Need-returns-2
-unfolding moveRows
+unfolding moveRows withBook givenRows
 returns-2 c =
     let told = c .before .before .before .before .before .before .before in
     let s = told .before .before in
-    let a = s .before .before .before .args in
+    let a = s .before .before .before .before .before .args in
     c .check-standing .ensures
     ∙ ap₂ (λ (x y : Bool). checkOf (weightRows (a .book .count) (a .book .weights) ++ signRows x y))
-    (c .before .before .before .is-negative .ensures ∙ ap negative (toZ-ofZ w64 (a .amount .coefficient) (amount-fits (s .before .before .before))))
-    (c .before .is-negative2 .ensures ∙ ap negative (toZ-ofZ w64 (a .book .net) (net-fits (s .before .before .before))))
+    (c .before .before .before .is-negative .ensures ∙ ap negative (toZ-ofZ w64 (a .amount .coefficient) (amount-fits (s .before .before .before .before .before))))
+    (c .before .is-negative2 .ensures ∙ ap negative (toZ-ofZ w64 (a .book .net) (net-fits (s .before .before .before .before .before))))
     ∙ sym (front-passed (given (a .book) (a .amount)) (standing (a .book) (a .amount)) (sym (front s) ∙ told .enum-told .given .1))
 
 pub check-move-spec : {M : Type 1} → statement M

@@ -1,7 +1,8 @@
 -- The weights decide first, and behind them the signs. Assumes nothing.
 use mathlib.Core.Path.{sym, _∙_}
 use borrow.Author.Needs.{needs}
-use Rattle.book.specs.Books.{weightRows, signRows}
+use Rattle.book.specs.Books.{weightRows}
+use Rattle.book.specs.Checks.{signRows}
 use Rattle.refusal.proofs.Joined.{front-refused, front-passed}
 use Rattle.book.proofs.checks.check_standing.Statement.{statement}
 use Rattle.book.proofs.checks.check_standing.Tie as tie

@@ -1,59 +1,43 @@
 -- Both running totals are the rule's, the greater at the greater net total, and an i64 holds the new net total. Assumes nothing.
-use mathlib.Core.Path.{_≡_, ap, ap₂, _∙_}
+use mathlib.Core.Path.{_≡_, ap, _∙_}
 use mathlib.Core.Bool.{false}
 use native.Mathlib.Omega.{arith}
 use borrow.Author.Needs.{needs}
-use lib.IntN.{ℤ, pos}
+use lib.IntN.{pos}
 use mir.Syntax.{w64}
 use mir.Val.{toZ, ofZ}
 use Rattle.refusal.specs.Rows.{gives}
 use Rattle.whole.specs.Whole.{magnitudeOf}
 use Rattle.whole.proofs.Laws.{held-within, read-back}
-use Rattle.units.proofs.Added.{never-fall}
-use Rattle.book.specs.Moves.{nextBook, lessOf}
+use Rattle.running.proofs.Total.{between-are}
+use Rattle.book.specs.declared.Book.{Book}
+use Rattle.book.specs.Books.{bookAt}
+use Rattle.book.specs.Moves.{nextBook}
 use Rattle.book.proofs.moves.moved.Statement.{statement}
 use Rattle.book.proofs.moves.moved.Tie as tie
 
-sum-from-requires : tie.Need-sum-from-requires
-sum-from-requires c κs = search needs
-
-running-requires : tie.Need-running-requires
-running-requires c κs = search needs
-
-running-requires-2 : tie.Need-running-requires-2
-running-requires-2 c κs = search needs
-
-less-requires : tie.Need-less-requires
-less-requires c κs = λ i.
-    let s = c .before .before .before .before .before in
-    rw (c .running2 .ensures, c .before .running .ensures) (never-fall (s .args .book .weights) (s .pre .0) (s .args .low) (s .args .high) (s .pre .2) i)
+units-between-requires : tie.Need-units-between-requires
+units-between-requires c κs = search needs
 
 signed-requires : tie.Need-signed-requires
 signed-requires c κs = search needs
 
-net : (c : tie.After-signed) → toZ w64 (ofZ w64 (c .signed .result)) ≡ pos (c .before .before .before .before .before .before .before .args .net)
-net c =
-    let s = c .before .before .before .before .before .before .before in
-    read-back (c .signed .result) (c .signed .ok) ∙ c .signed .ensures ∙ held-within false (s .args .net) (omega (arith, s .pre .4))
+at-net-requires : tie.Need-at-net-requires
+at-net-requires c κs = search needs
 
 returns : tie.Need-returns
 unfolding nextBook
 returns c =
-    let s = c .before .before .before .before .before .before .before in
+    let s = c .before .before .before .before in
     let b = s .args .book in
+    let net : toZ w64 (ofZ w64 (c .before .signed .result)) ≡ pos (s .args .net) =
+    read-back (c .before .signed .result) (c .before .signed .ok) ∙ c .before .signed .ensures ∙ held-within false (s .args .net) (omega (arith, s .pre .2)) in
+    let next = c .at-net .ensures ∙ ap (bookAt b) net in
     record {
-      outcome = ap (λ (z : ℤ). gives (magnitudeOf z)) (net c);
-      book = ap (λ (z : ℤ). record { currency = b .currency; count = b .count; weights = b .weights; net = z }) (net c);
-      paid = c .before .less .ensures ∙ ap₂ lessOf (c .before .before .before .running .ensures) (c .before .before .running2 .ensures);
+      outcome = ap (λ (x : Book). gives (magnitudeOf (x .net))) next;
+      book = next;
+      paid = c .before .before .units-between .ensures ∙ between-are (b .weights) (s .pre .0) (s .pre .1) (s .args .low) (s .args .high);
     }
 
 pub moved-spec : {M : Type 1} → statement M
-moved-spec =
-    tie.close
-    (tie.spec
-    sum-from-requires
-    running-requires
-    running-requires-2
-    less-requires
-    signed-requires
-    returns)
+moved-spec = tie.close (tie.spec units-between-requires signed-requires at-net-requires returns)

@@ -1,23 +1,25 @@
 -- The list fills the first places of sixteen noughts. Assumes nothing.
 use mathlib.Core.Path.{_≡_, refl, ap, _∙_}
-use Prim.Native.Nat.{_-_, _≤_}
+use Prim.Native.Nat.{ℕ, _-_, _≤_}
 use native.Mathlib.Omega.{arith}
 use borrow.Author.Needs.{needs}
 use lib.ListN.{length, getD}
 use Rattle.book.specs.Books.{zeros}
-use Rattle.book.proofs.Places.{filledTo, filled-more, padded}
+use Rattle.whole.specs.Lists.{filled}
+use Rattle.whole.proofs.Lists.{fill-none}
+use Rattle.running.proofs.Places.{fill-next}
+use Rattle.book.proofs.Lists.{padded}
 use Rattle.book.proofs.weights.placed.Statement.{statement}
 use Rattle.book.proofs.weights.placed.Tie as tie
 
 abbrev Inv-loop : tie.InvT-loop
-Inv-loop list weights₀ i₀ weights i = (i ≤ length list) × (weights ≡ filledTo (λ k. getD list k 0) zeros i)
+Inv-loop list weights₀ i₀ weights i = (i ≤ length list) × (weights ≡ filled 0 (λ k. getD list k 0) i zeros)
 
 abbrev μ-loop : tie.MeasureT-loop
 μ-loop list weights₀ i₀ weights i = length list - i
 
 loop-holds : tie.Need-loop-holds Inv-loop μ-loop
-unfolding filledTo
-loop-holds c = (omega arith, refl)
+loop-holds c = (omega arith, fill-none 0 _ zeros)
 
 mul-weights : tie.Need-mul-weights Inv-loop μ-loop
 mul-weights c = search needs
@@ -40,13 +42,13 @@ loop-less c = search needs
 loop-again : tie.Need-loop-again Inv-loop μ-loop
 loop-again c =
     let list = c .before .before .before .args .list .now in
-    (omega arith, filled-more (λ k. getD list k 0) zeros (c .before .before .loop .weights) (c .before .before .loop .i) (getD list (c .before .before .loop .i) 0) (c .before .before .loop .inv .1) refl)
+    (omega arith, fill-next (λ k. getD list k 0) zeros (c .before .before .loop .weights) (c .before .before .loop .i) (getD list (c .before .before .loop .i) 0) (c .before .before .loop .inv .1) refl)
 
 returns : tie.Need-returns Inv-loop μ-loop
 returns c =
     let list = c .before .before .args .list .now in
     let e : c .before .loop .i ≡ length list = omega arith in
-    c .before .loop .inv .1 ∙ ap (filledTo (λ k. getD list k 0) zeros) e ∙ padded list 16 (c .before .before .pre)
+    c .before .loop .inv .1 ∙ ap (λ (n : ℕ). filled 0 (λ k. getD list k 0) n zeros) e ∙ padded list 16 (c .before .before .pre)
 
 pub placed-spec : {M : Type 1} → statement M
 placed-spec =

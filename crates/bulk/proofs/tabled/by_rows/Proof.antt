@@ -16,18 +16,18 @@ use Rattle.book.specs.Moves.{netOf, nextBook}
 use Rattle.bulk.specs.Serving.{ServedTo}
 use Rattle.bulk.proofs.Steps.{served-lengths}
 use Rattle.bulk.proofs.LeftSaid.{step-within}
-use Rattle.bulk.proofs.Standing.{standing-net, Serving, serving-start, serving-step}
+use Rattle.bulk.proofs.Standing.{sound-net, Serving, serving-start, serving-step}
 use Rattle.bulk.proofs.tabled.by_rows.Statement.{statement}
 use Rattle.bulk.proofs.tabled.by_rows.Tie as tie
 
 abbrev Inv-loop : tie.InvT-loop
-Inv-loop sum table kinds coefficients payouts₀ numbers₀ weights net₀ held₀ j₀ payouts numbers net held j =
-    (j ≤ length kinds) × (net ≤ largest) × (held ≡ totals weights net)
-    × Serving kinds coefficients payouts₀ numbers₀ weights net₀ j net payouts numbers
+Inv-loop sum table refunds coefficients payouts₀ numbers₀ weights net₀ held₀ j₀ payouts numbers net held j =
+    (j ≤ length refunds) × (net ≤ largest) × (held ≡ totals weights net)
+    × Serving refunds coefficients payouts₀ numbers₀ weights net₀ j net payouts numbers
 
 abbrev μ-loop : tie.MeasureT-loop
-μ-loop sum table kinds coefficients payouts₀ numbers₀ weights net₀ held₀ j₀ payouts numbers net held j =
-    length kinds - j
+μ-loop sum table refunds coefficients payouts₀ numbers₀ weights net₀ held₀ j₀ payouts numbers net held j =
+    length refunds - j
 
 magnitude-requires : tie.Need-magnitude-requires Inv-loop μ-loop
 magnitude-requires c κs = search needs
@@ -40,7 +40,7 @@ net c =
 
 limit : (c : tie.After-magnitude Inv-loop μ-loop) → c .magnitude .result ≤ largest
 limit c =
-    let s = c .before .before .before .before .before .before .before in rw (net c) (standing-net (s .args .book) (s .pre .0) .1)
+    let s = c .before .before .before .before .before .before .before in rw (net c) (sound-net (s .args .book) (s .pre .0) .1)
 
 totals-by-requires : tie.Need-totals-by-requires Inv-loop μ-loop
 totals-by-requires c κs =
@@ -53,7 +53,7 @@ loop-holds c =
 -- the lent lists keep their lengths
 served : (c : tie.At-loop Inv-loop μ-loop)
     → let s = c .before .before .before .before .before .before .before .before .before in
-    ServedTo (s .args .book) (s .args .kinds .now) (s .args .coefficients .now) (s .args .payouts .now) (s .args .numbers .now) (c .loop .j)
+    ServedTo (s .args .book) (s .args .refunds .now) (s .args .coefficients .now) (s .args .payouts .now) (s .args .numbers .now) (c .loop .j)
     (nextBook (s .args .book) (gives (c .loop .net))) (c .loop .payouts) (c .loop .numbers)
 served c =
     let s = c .before .before .before .before .before .before .before .before .before in
@@ -64,7 +64,7 @@ lengths : (c : tie.At-loop Inv-loop μ-loop)
     (length (c .loop .payouts) ≡ length (s .args .payouts .now)) × (length (c .loop .numbers) ≡ length (s .args .numbers .now))
 lengths c =
     let a = c .before .before .before .before .before .before .before .before .before .args in
-    served-lengths (a .book) (a .kinds .now) (a .coefficients .now) (a .payouts .now) (a .numbers .now) (served c)
+    served-lengths (a .book) (a .refunds .now) (a .coefficients .now) (a .payouts .now) (a .numbers .now) (served c)
 
 shared-slice-read-step : tie.Need-shared-slice-read-step Inv-loop μ-loop
 shared-slice-read-step c = search needs
@@ -83,7 +83,7 @@ step-requires c κs =
     let inside = c .before .before .before .before .before .loop-test .taken in
     (s .pre .1 .0, (s .pre .1 .1 .0, ((at .loop .inv .1, at .loop .inv .2), (omega arith, omega arith))))
 
--- a place of the kinds is a usize, and so is the next
+-- a place of the refunds is a usize, and so is the next
 next : (c : tie.After-shared-slice-known3 Inv-loop μ-loop) → c .before .before .loop .j + 1 < 2 ^ 64
 next c = let h : Fits w64 (c .before .before .loop .j * 8) = mul-step c in omega (arith, h .fits)
 
@@ -103,7 +103,7 @@ loop-again c =
       omega (arith, test .loop-test .taken),
       step-within (at .loop .inv .1) (t .ensures),
       t .ensures .held,
-      serving-step (a .kinds .now) (a .coefficients .now) (a .payouts .now) (a .numbers .now) (a .book .weights) _ _ (read-back _ k) (at .loop .inv .1) (at .loop .inv .3) (t .ensures),
+      serving-step (a .refunds .now) (a .coefficients .now) (a .payouts .now) (a .numbers .now) (a .book .weights) _ _ (read-back _ k) (at .loop .inv .1) (at .loop .inv .3) (t .ensures),
     )
 
 same-length : tie.Need-same-length Inv-loop μ-loop
@@ -115,7 +115,7 @@ same-length-2 c = lengths (c .before) .1
 returns : tie.Need-returns Inv-loop μ-loop
 returns c =
     let a = c .before .before .before .before .before .before .before .before .before .before .args in
-    let e : c .before .loop .j ≡ length (a .kinds .now) = omega arith in
+    let e : c .before .loop .j ≡ length (a .refunds .now) = omega arith in
     (c .before .loop .inv .1, rw e at (served (c .before)))
 
 pub by-rows-spec : {M : Type 1} → statement M

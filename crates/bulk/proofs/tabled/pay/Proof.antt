@@ -1,13 +1,13 @@
 -- After i turns the first i differences stand from the place on. Assumes nothing.
-use mathlib.Core.Path.{_≡_, sym, ap, _∙_}
+use mathlib.Core.Path.{_≡_, refl, sym, ap, _∙_}
 use Prim.Native.Nat.{_-_, _≤_}
 use native.Mathlib.Omega.{arith}
 use borrow.Author.Needs.{needs}
-use lib.ListN.{length}
+use lib.ListN.{length, getD}
 use Rattle.book.specs.Moves.{lessOf}
-use Rattle.book.proofs.Lists.{less-place}
+use Rattle.running.proofs.Places.{less-place}
+use Rattle.whole.proofs.Lists.{fill-none, fill-more, length-filled}
 use Rattle.bulk.specs.Runs.{written}
-use Rattle.bulk.proofs.Written.{write-start, write-step, length-written}
 use Rattle.bulk.proofs.tabled.pay.Statement.{statement}
 use Rattle.bulk.proofs.tabled.pay.Tie as tie
 
@@ -18,11 +18,11 @@ abbrev μ-loop : tie.MeasureT-loop
 μ-loop out₀ at high low i₀ out i = 16 - i
 
 loop-holds : tie.Need-loop-holds Inv-loop μ-loop
-loop-holds c = (omega arith, write-start _ _ _)
+loop-holds c = (omega arith, fill-none _ _ _)
 
 long : (c : tie.At-loop Inv-loop μ-loop) → length (c .loop .out) ≡ length (c .before .args .out .now)
 long c =
-    let a = c .before .args in ap length (c .loop .inv .1) ∙ length-written (a .out .now) (a .at) (lessOf (a .t1) (a .t2)) (c .loop .i)
+    let a = c .before .args in ap length (c .loop .inv .1) ∙ length-filled (a .at) (λ k. getD (lessOf (a .t1) (a .t2)) k 0) (a .out .now) (c .loop .i)
 
 mul-out : tie.Need-mul-out Inv-loop μ-loop
 mul-out c = search needs
@@ -58,7 +58,7 @@ loop-again : tie.Need-loop-again Inv-loop μ-loop
 loop-again c =
     let a = c .before .before .args in
     let l = c .before .loop in
-    (omega arith, write-step (a .out .now) (a .at) (lessOf (a .t1) (a .t2)) (l .out) (l .i) _ (l .inv .1) (sym (less-place (a .t1) (a .t2) (l .i))))
+    (omega arith, fill-more (a .at) (λ k. getD (lessOf (a .t1) (a .t2)) k 0) (a .out .now) (l .out) (l .i) _ _ (l .inv .1) refl (sym (less-place (a .t1) (a .t2) (l .i))))
 
 same-length : tie.Need-same-length Inv-loop μ-loop
 same-length c = long (c .before)

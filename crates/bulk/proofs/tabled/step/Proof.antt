@@ -52,32 +52,32 @@ returns c =
     let k = c .before .before .before .before .before in
     let st = k .before .before .before .before .before .before in
     let a = st .args in
-    step-refused (a .weights) (a .kind) (a .coefficient) (a .j) (a .net) (k .before .before .magnitude .result) (k .check-call .result)
+    step-refused (a .weights) (a .refund) (a .coefficient) (a .j) (a .net) (k .before .before .magnitude .result) (k .check-call .result)
     (k .before .is-negative .result) (a .payouts .now) (a .numbers .now) (a .held .now) _ (same-sign (k .before)) (same-m (k .before .before))
     (k .check-call .ensures) (st .pre .1 .1 .0 .1) (c .before .before .before .before .if1 .taken) (c .before .before .write .ensures)
 
--- an accepted posting stays within L
-posts : (c : tie.Then2)
-    → c .before .before .before .before .before .before .before .before .args .net + c .before .before .before .before .magnitude .result ≤ largest
-posts c =
+-- an accepted refund is at most the net total
+refunds : (c : tie.Then2)
+    → c .before .before .before .before .magnitude .result ≤ c .before .before .before .before .before .before .before .before .args .net
+refunds c =
     let k = c .before .before in
     let a = k .before .before .before .before .before .before .args in
-    left-posts (a .kind) (k .before .is-negative .result) (k .before .before .magnitude .result) (a .net)
+    left-refunds (a .refund) (k .before .is-negative .result) (k .before .before .magnitude .result) (a .net)
     (sym (k .check-call .ensures) ∙ c .before .if1 .left) (c .if2 .taken) .1
 
-add-next : tie.Need-add-next
-add-next c = omega (arith, posts c)
+sub-next : tie.Need-sub-next
+sub-next c = refunds c
 
 totals-by-requires : tie.Need-totals-by-requires
 totals-by-requires c κs =
-    let s = c .before .before .before .before .before .before .before .before in (s .pre .0, (s .pre .1 .0, posts c))
+    let s = c .before .before .before .before .before .before .before .before in (s .pre .0, (s .pre .1 .0, omega (arith, s .pre .1 .1 .0 .0)))
 
 pay-requires : tie.Need-pay-requires
 pay-requires c κs =
     let t = c .before .before in
     let s = t .before .before .before .before .before .before .before .before .before in
     let a = s .args in
-    (totals-rise (a .weights) (s .pre .0) (a .net) _ _ _ (omega arith) (s .pre .1 .1 .0 .1) (t .totals-by .ensures), omega arith)
+    (totals-rise (a .weights) (s .pre .0) _ (a .net) _ _ (omega arith) (t .totals-by .ensures) (s .pre .1 .1 .0 .1), omega arith)
 
 same-length-3 : tie.Need-same-length-3
 same-length-3 c = search needs
@@ -91,33 +91,33 @@ returns-2 c =
     let k = t .before .before .before in
     let s = k .before .before .before .before .before .before in
     let a = s .args in
-    step-posted (a .weights) (a .kind) (a .coefficient) (a .j) (a .net) (k .before .before .magnitude .result) (k .check-call .result)
+    step-refunded (a .weights) (a .refund) (a .coefficient) (a .j) (a .net) (k .before .before .magnitude .result) (k .check-call .result)
     (k .before .is-negative .result) (a .payouts .now) (a .numbers .now) (a .held .now) _ (same-sign (k .before)) (same-m (k .before .before))
     (k .check-call .ensures) (s .pre .1 .1 .0 .1) (t .before .before .if1 .left) (t .totals-by .result) (t .before .if2 .taken) (t .totals-by .ensures)
     (c .before .before .pay .ensures)
 
--- an accepted refund is at most the net total
-refunds : (c : tie.Else2)
-    → c .before .before .before .before .magnitude .result ≤ c .before .before .before .before .before .before .before .before .args .net
-refunds c =
+-- an accepted posting stays within L
+posts : (c : tie.Else2)
+    → c .before .before .before .before .before .before .before .before .args .net + c .before .before .before .before .magnitude .result ≤ largest
+posts c =
     let k = c .before .before in
     let a = k .before .before .before .before .before .before .args in
-    left-refunds (a .kind) (k .before .is-negative .result) (k .before .before .magnitude .result) (a .net)
+    left-posts (a .refund) (k .before .is-negative .result) (k .before .before .magnitude .result) (a .net)
     (sym (k .check-call .ensures) ∙ c .before .if1 .left) (c .if2 .left) .1
 
-sub-next : tie.Need-sub-next
-sub-next c = refunds c
+add-next : tie.Need-add-next
+add-next c = omega (arith, posts c)
 
 totals-by-requires-2 : tie.Need-totals-by-requires-2
 totals-by-requires-2 c κs =
-    let s = c .before .before .before .before .before .before .before .before in (s .pre .0, (s .pre .1 .0, omega (arith, s .pre .1 .1 .0 .0)))
+    let s = c .before .before .before .before .before .before .before .before in (s .pre .0, (s .pre .1 .0, posts c))
 
 pay-requires-2 : tie.Need-pay-requires-2
 pay-requires-2 c κs =
     let t = c .before .before in
     let s = t .before .before .before .before .before .before .before .before .before in
     let a = s .args in
-    (totals-rise (a .weights) (s .pre .0) _ (a .net) _ _ (omega arith) (t .totals-by2 .ensures) (s .pre .1 .1 .0 .1), omega arith)
+    (totals-rise (a .weights) (s .pre .0) (a .net) _ _ _ (omega arith) (s .pre .1 .1 .0 .1) (t .totals-by2 .ensures), omega arith)
 
 same-length-5 : tie.Need-same-length-5
 same-length-5 c = search needs
@@ -131,7 +131,7 @@ returns-3 c =
     let k = t .before .before .before in
     let s = k .before .before .before .before .before .before in
     let a = s .args in
-    step-refunded (a .weights) (a .kind) (a .coefficient) (a .j) (a .net) (k .before .before .magnitude .result) (k .check-call .result)
+    step-posted (a .weights) (a .refund) (a .coefficient) (a .j) (a .net) (k .before .before .magnitude .result) (k .check-call .result)
     (k .before .is-negative .result) (a .payouts .now) (a .numbers .now) (a .held .now) _ (same-sign (k .before)) (same-m (k .before .before))
     (k .check-call .ensures) (s .pre .1 .1 .0 .1) (t .before .before .if1 .left) (t .totals-by2 .result) (t .before .if2 .left) (t .totals-by2 .ensures)
     (c .before .before .pay2 .ensures)
@@ -149,13 +149,13 @@ step-spec =
     same-length
     same-length-2
     returns
-    add-next
+    sub-next
     totals-by-requires
     pay-requires
     same-length-3
     same-length-4
     returns-2
-    sub-next
+    add-next
     totals-by-requires-2
     pay-requires-2
     same-length-5

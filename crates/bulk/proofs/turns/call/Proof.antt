@@ -1,4 +1,4 @@
--- The amount is the coefficient in the book's currency at its own digits, and the kind chooses the call. Assumes nothing.
+-- The amount is the coefficient in the book's currency at its own digits, and what the call is said to be chooses it. Assumes nothing.
 use mathlib.Core.Path.{_≡_, ap₂, subst}
 use borrow.Author.Needs.{needs}
 use lib.IntN.{ℤ}
@@ -7,8 +7,7 @@ use mir.Val.{SFits, toZ, ofZ}
 use mir.ValLaws.{toZ-ofZ}
 use Rattle.amount.specs.declared.Amount.{Amount}
 use Rattle.currency.specs.declared.Line.{Line}
-use Rattle.book.specs.Moves.{Posts, Refunds}
-use Rattle.bulk.specs.Runs.{amountOf}
+use Rattle.book.specs.Moves.{amountOf, Posts, Refunds}
 use Rattle.bulk.proofs.Call.{call-posts, call-refunds}
 use Rattle.bulk.proofs.turns.call.Statement.{statement}
 use Rattle.bulk.proofs.turns.call.Tie as tie
@@ -36,15 +35,15 @@ returns : tie.Need-returns
 returns c =
     let l = c .before .before in
     let a = l .before .before .args in
-    call-posts (a .kind) (a .book) (a .coefficient) (c .post .result) (c .before .if1 .taken)
-    (subst (λ (x : Amount). Posts (a .book) x (c .post .result)) (asked l) (c .post .ensures))
+    call-refunds (a .refund) (a .book) (a .coefficient) (c .refund .result) (c .before .if1 .taken)
+    (subst (λ (x : Amount). Refunds (a .book) x (c .refund .result)) (asked l) (c .refund .ensures))
 
 returns-2 : tie.Need-returns-2
 returns-2 c =
     let l = c .before .before in
     let a = l .before .before .args in
-    call-refunds (a .kind) (a .book) (a .coefficient) (c .refund .result) (c .before .if1 .left)
-    (subst (λ (x : Amount). Refunds (a .book) x (c .refund .result)) (asked l) (c .refund .ensures))
+    call-posts (a .refund) (a .book) (a .coefficient) (c .post .result) (c .before .if1 .left)
+    (subst (λ (x : Amount). Posts (a .book) x (c .post .result)) (asked l) (c .post .ensures))
 
 pub call-spec : {M : Type 1} → statement M
-call-spec = tie.close (tie.spec line-of-requires post-requires refund-requires returns returns-2)
+call-spec = tie.close (tie.spec line-of-requires refund-requires post-requires returns returns-2)

@@ -11,11 +11,11 @@ use Rattle.bulk.proofs.turns.one_by_one.Statement.{statement}
 use Rattle.bulk.proofs.turns.one_by_one.Tie as tie
 
 abbrev Inv-loop : tie.InvT-loop
-Inv-loop kinds coefficients payouts₀ numbers₀ last₀ j₀ payouts numbers last j =
-    (j ≤ length kinds) × ServedTo last₀ kinds coefficients payouts₀ numbers₀ j last payouts numbers
+Inv-loop refunds coefficients payouts₀ numbers₀ last₀ j₀ payouts numbers last j =
+    (j ≤ length refunds) × ServedTo last₀ refunds coefficients payouts₀ numbers₀ j last payouts numbers
 
 abbrev μ-loop : tie.MeasureT-loop
-μ-loop kinds coefficients payouts₀ numbers₀ last₀ j₀ payouts numbers last j = length kinds - j
+μ-loop refunds coefficients payouts₀ numbers₀ last₀ j₀ payouts numbers last j = length refunds - j
 
 loop-holds : tie.Need-loop-holds Inv-loop μ-loop
 loop-holds c = (search needs, served-start _ _ _ _ _)
@@ -26,7 +26,7 @@ lengths : (c : tie.At-loop Inv-loop μ-loop)
     × (length (c .loop .numbers) ≡ length (c .before .before .before .before .args .numbers .now))
 lengths c =
     let a = c .before .before .before .before .args in
-    served-lengths (a .book) (a .kinds .now) (a .coefficients .now) (a .payouts .now) (a .numbers .now) (c .loop .inv .1)
+    served-lengths (a .book) (a .refunds .now) (a .coefficients .now) (a .payouts .now) (a .numbers .now) (c .loop .inv .1)
 
 shared-slice-read-turn : tie.Need-shared-slice-read-turn Inv-loop μ-loop
 shared-slice-read-turn c = search needs
@@ -56,7 +56,7 @@ loop-again c =
     let inside = c .before .before .before .before .before .before .before .before .before .loop-test .taken in
     let coefficient = c .before .before .before .before .before .before .before .turn-arg .given in (
       omega arith,
-      served-step (a .book) (a .kinds .now) (a .coefficients .now) (a .payouts .now) (a .numbers .now) (at .loop .inv .1) _ (read-back _ coefficient) (t .ensures),
+      served-step (a .book) (a .refunds .now) (a .coefficients .now) (a .payouts .now) (a .numbers .now) (at .loop .inv .1) _ (read-back _ coefficient) (t .ensures),
     )
 
 same-length : tie.Need-same-length Inv-loop μ-loop
@@ -68,7 +68,7 @@ same-length-2 c = lengths (c .before) .1
 returns : tie.Need-returns Inv-loop μ-loop
 returns c =
     let a = c .before .before .before .before .before .args in
-    let e : c .before .loop .j ≡ length (a .kinds .now) = omega arith in
+    let e : c .before .loop .j ≡ length (a .refunds .now) = omega arith in
     rw e at (c .before .loop .inv .1)
 
 pub one-by-one-spec : {M : Type 1} → statement M

@@ -15,8 +15,8 @@ mul-write c = search needs
 write-requires : tie.Need-write-requires
 write-requires c κs = search needs
 
-number-of-requires : tie.Need-number-of-requires
-number-of-requires c κs = search needs
+number-requires : tie.Need-number-requires
+number-requires c κs = search needs
 
 slice-write-numbers : tie.Need-slice-write-numbers
 slice-write-numbers c = search needs
@@ -32,9 +32,9 @@ returns c =
     let k = c .before .before .before .before .before .before .before in
     let s = k .before .before .before in
     let a = s .args in
-    turned (a .book) (a .kind) (a .coefficient) _ (a .j) (a .payouts .now) (a .numbers .now) _ _ (k .call .result)
+    turned (a .book) (a .refund) (a .coefficient) _ (a .j) (a .payouts .now) (a .numbers .now) _ _ (k .call .result)
     (toZ-ofZ w64 (a .coefficient) (s .fits .coefficient)) (k .call .ensures) (c .before .before .before .before .write .ensures)
-    (c .before .number-of .ensures)
+    (c .before .number .ensures)
 
 pub turn-spec : {M : Type 1} → statement M
 turn-spec =
@@ -43,7 +43,7 @@ turn-spec =
     call-requires
     mul-write
     write-requires
-    number-of-requires
+    number-requires
     slice-write-numbers
     same-length
     same-length-2

@@ -3,9 +3,9 @@ use mathlib.Core.Path.{_≡_, refl, ap, _∙_}
 use Prim.Native.Nat.{_-_, _≤_}
 use native.Mathlib.Omega.{arith}
 use borrow.Author.Needs.{needs}
-use lib.ListN.{length}
+use lib.ListN.{length, getD}
+use Rattle.whole.proofs.Lists.{fill-none, fill-more, length-filled}
 use Rattle.bulk.specs.Runs.{written}
-use Rattle.bulk.proofs.Written.{write-start, write-step, length-written}
 use Rattle.bulk.proofs.turns.write.Statement.{statement}
 use Rattle.bulk.proofs.turns.write.Tie as tie
 
@@ -16,7 +16,7 @@ abbrev μ-loop : tie.MeasureT-loop
 μ-loop out₀ at payouts i₀ out i = 16 - i
 
 loop-holds : tie.Need-loop-holds Inv-loop μ-loop
-loop-holds c = (omega arith, write-start _ _ _)
+loop-holds c = (omega arith, fill-none _ _ _)
 
 mul-out : tie.Need-mul-out Inv-loop μ-loop
 mul-out c = search needs
@@ -26,7 +26,7 @@ array-read-out c = search needs
 
 long : (c : tie.At-loop Inv-loop μ-loop) → length (c .loop .out) ≡ length (c .before .args .out .now)
 long c =
-    let a = c .before .args in ap length (c .loop .inv .1) ∙ length-written (a .out .now) (a .at) (a .t3) (c .loop .i)
+    let a = c .before .args in ap length (c .loop .inv .1) ∙ length-filled (a .at) (λ k. getD (a .t3) k 0) (a .out .now) (c .loop .i)
 
 add-out : tie.Need-add-out Inv-loop μ-loop
 add-out c = omega arith
@@ -47,7 +47,7 @@ loop-again : tie.Need-loop-again Inv-loop μ-loop
 loop-again c =
     let a = c .before .before .args in
     let l = c .before .loop in
-    (omega arith, write-step (a .out .now) (a .at) (a .t3) (l .out) (l .i) _ (l .inv .1) refl)
+    (omega arith, fill-more (a .at) (λ k. getD (a .t3) k 0) (a .out .now) (l .out) (l .i) _ _ (l .inv .1) refl refl)
 
 same-length : tie.Need-same-length Inv-loop μ-loop
 same-length c = long (c .before)

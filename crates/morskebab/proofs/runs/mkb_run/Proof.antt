@@ -26,7 +26,7 @@ returns c =
     let s = c .before .before .before .before .before in
     let a = s .before .before .before .before .before .before .before .args in
     let p = rw (s .before .before .before .given-book .ensures) at (s .run .ensures) in
-    let e = served (a .book) (now (a .kinds)) (now (a .coefficients)) (now (a .payouts)) (now (a .numbers)) _ _ (s .run .result) p in
+    let e = served (a .book) (now (a .refunds)) (now (a .coefficients)) (now (a .payouts)) (now (a .numbers)) _ _ (s .run .result) p in
     (c .flat-ran .ensures ∙ e, (rw (c .flat-ran .ensures) (p .paid), rw (c .flat-ran .ensures) (p .said)))
 
 pub mkb-run-spec : {M : Type 1} → statement M

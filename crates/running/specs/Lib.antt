@@ -1,0 +1,4 @@
+pub mod Limits
+pub mod Totals
+pub mod Taking
+pub mod Running
