@@ -1,7 +1,7 @@
 """desk: one answer line for each line of the input, in order."""
 
 from amounts import Amount, negation_of, order_of, rescaled, sum_of
-from book import ALL_ZERO_BOOK, open_book, post, refund, totals
+from book import ALL_ZERO_BOOK, new_card, open_book, post, refund, settled, totals
 from command import ALL_WELL, READING_OR_WRITING_FAILED, run
 from compound import compound
 from dates import Date
@@ -121,6 +121,13 @@ class Desk:
     def refund(self, numbers):
         return self.step(refund(self.book, Amount(*numbers)))
 
+    def card(self, numbers):
+        step = new_card(self.book, numbers)
+        self.book = step.book
+        if step.refusal is not None:
+            return refused(step.refusal)
+        return accepted(["card", step.book.card])
+
     def step(self, step):
         """The successor is the current book; of a refused step that is the book given."""
         self.book = step.book
@@ -130,6 +137,9 @@ class Desk:
 
     def totals(self, numbers):
         return said(totals(self.book), lambda found: [self.book.net, *found])
+
+    def settled(self, numbers):
+        return said(settled(self.book), lambda found: [self.book.card, *found])
 
 
 VERBS = {
@@ -150,6 +160,8 @@ VERBS = {
     b"post": Desk.post,
     b"refund": Desk.refund,
     b"totals": Desk.totals,
+    b"card": Desk.card,
+    b"settled": Desk.settled,
 }
 
 

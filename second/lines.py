@@ -76,6 +76,7 @@ FORMS_OF_ASKS = {
         b"round": [Form((MODE, FACTOR, FACTOR, DIVISOR))],
         b"convert": [Form(AMOUNT + (CURRENCY, STEP))],
     },
+    9: {b"card": [Form((), further=WEIGHT)], b"settled": [Form(())]},
     12: {b"vouchers": [Form((VOUCHERS, room(80)), further=WEIGHT)]},
 }
 for ask in sorted(LANDED):

@@ -1,13 +1,18 @@
-"""Checks of the asks of document 02 that are written here, as if each had landed."""
+"""test_asks [ASK ..]: checks of the asks of document 02 as if these had landed, and no other;
+where none is given, all that are written here."""
+
+import sys
 
 import asks
 
 # before anything else is imported, since tables are made by what has landed
-asks.LANDED = asks.WRITTEN
+asks.LANDED = frozenset(map(int, sys.argv[1:])) or asks.WRITTEN
 
 from fractions import Fraction
 
 import checks
+import test_cards
+import test_lines
 from amounts import Amount, L
 from checks import holds, same
 from compound import compound
@@ -17,7 +22,7 @@ from interest import interest
 from refusals import Refusal
 from rounding import HALF_UP, round_product, round_quotient, rounded
 from tax import net_for
-from test_lines import HERE, answers
+from test_lines import HERE, answers, lines
 from vouchers import vouchers
 
 EUR = 0
@@ -25,13 +30,6 @@ EUR = 0
 
 def eur(cents):
     return Amount(EUR, 2, cents)
-
-
-def lines(text):
-    """Each line of the text is a line for the desk, an arrow and its answer."""
-    for line in text.strip().split("\n"):
-        asked, expected = line.split("->")
-        same(answers(asked.encode("ascii")), [expected.strip().encode("ascii")])
 
 
 def american_and_european_months():
@@ -176,18 +174,30 @@ def fixed_cases_are_understood():
     """The lines of an ask's fixed cases, but for those that a comment says are not understood."""
     for ask in asks.WRITTEN:
         comment = b""
-        for line in (HERE / f"ask{ask}.txt").read_bytes().split(b"\n")[:-1]:
+        cases = (HERE / f"ask{ask}.txt").read_bytes()
+        for line, answer in zip(cases.split(b"\n"), answers(cases)):
             if line == b"" or line.startswith(b"#"):
                 comment = line
-            not_understood = answers(line + b"\n") == [b"?"]
-            same((line, not_understood), (line, b"not understood" in comment and line != comment))
+            expected = b"not understood" in comment and line != comment
+            same((line, answer == b"?"), (line, expected))
+
+
+# the asks that must have landed for a check to hold
+CHECKS = (
+    ({2}, american_and_european_months),
+    ({5}, nets_of_prices),
+    ({6}, compound_tables),
+    ({7}, products_and_larger_amounts),
+    ({12}, vouchers_by_highest_average),
+    *test_cards.CHECKS,
+    (asks.WRITTEN, fixed_cases_are_understood),
+    (set(), test_lines.lines_of_asks),
+    (set(), test_lines.answers_have_the_right_form),
+)
 
 
 if __name__ == "__main__":
-    american_and_european_months()
-    nets_of_prices()
-    compound_tables()
-    products_and_larger_amounts()
-    vouchers_by_highest_average()
-    fixed_cases_are_understood()
+    for needed, check in CHECKS:
+        if needed <= asks.LANDED:
+            check()
     print(checks.passed)

@@ -27,6 +27,14 @@ def answers(data):
     return printed(desk, data).split(b"\n")[:-1]
 
 
+def lines(text):
+    """Each line of the text is a line for one desk, an arrow and its answer."""
+    asked, expected = zip(*(line.split(" -> ") for line in text.strip().split("\n")))
+    found = answers("\n".join(asked).encode("ascii"))
+    for line, got, answer in zip(asked, found, expected, strict=True):
+        same((line, got.decode("ascii")), (line, answer))
+
+
 def reports(data):
     return printed(rerun, data).decode("ascii")
 
@@ -83,6 +91,8 @@ def lines_of_asks():
         (6, b"compound 0 2 100 500 3 4"),
         (7, b"round 6 3 5 2"),
         (7, b"convert 2 2 10000 4 3"),
+        (9, b"card 1"),
+        (9, b"settled"),
         (12, b"vouchers 10 3 5 3 2"),
     ):
         same(answers(line) != [b"?"], landed(ask))
@@ -95,7 +105,7 @@ def lines_of_asks():
 
 def answers_have_the_right_form():
     """Each fixed and each generated line has one answer of the page's forms; no report fails."""
-    words = rb"= open|= (less|equal|greater)|=( -?\d+)+|! (7 (first|second)|\d+)|\?|#.*|"
+    words = rb"= open|= card \d+|= (less|equal|greater)|=( -?\d+)+|! (7 (first|second)|\d+)|\?|#.*|"
     form = re.compile(words, re.DOTALL)
     inputs = [b"".join(generated(seed, 1500)) for seed in range(4)]
     inputs.append((HERE / "cases.txt").read_bytes())

@@ -9,7 +9,8 @@ import tempfile
 from book import open_book
 from checks import holds, same
 from desk import desk
-from rerun import Partner, check, rerun
+from reports import Partner, check
+from rerun import rerun
 from test_lines import HERE, LONG_NUMBER, MARK, reports
 
 BOOK = b"open 0 5 3\npost 0 2 8\n"

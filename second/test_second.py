@@ -10,7 +10,7 @@ import checks
 import test_lines
 import test_rerun
 from amounts import CURRENCIES, Amount, L, negation_of, order_of, rescaled, sum_of
-from asks import landed
+from asks import WRITTEN, landed
 from book import ALL_ZERO_BOOK, NO_PAYOUTS, Book, Pattern, open_book, post, refund, running_totals
 from book import totals as totals_of
 from checks import holds, same
@@ -241,9 +241,13 @@ def laws_of_sharing():
 
 
 def checks_of_asks():
-    """The asks are checked in a program of their own, in which they have landed."""
+    """The asks are checked in programs of their own, in which they have landed: all, and each
+    alone."""
     command = [sys.executable, str(test_lines.HERE / "test_asks.py")]
-    return int(subprocess.run(command, check=True, stdout=subprocess.PIPE).stdout)
+    return sum(
+        int(subprocess.run(command + landing, check=True, stdout=subprocess.PIPE).stdout)
+        for landing in [[]] + [[str(ask)] for ask in sorted(WRITTEN)]
+    )
 
 
 if __name__ == "__main__":
