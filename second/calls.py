@@ -5,6 +5,8 @@ from asks import landed
 from dates import BASES
 from source import Source
 from tax import split_from_net
+from texts import text_of
+from typed import text
 
 
 def numerator_and_divisor(source):
@@ -114,6 +116,22 @@ def vouchers(source):
     return [count, room] + weights
 
 
+def text_to_read(source):
+    """Texts of up to 20 characters and a little over, about L and far over it among them."""
+    coefficient = source.coefficient()
+    if source.chance(20):
+        coefficient = source.pick(1, -1) * source.below(10 ** source.pick(12, 16, 18, 19, 20, 21))
+    return [source.currency(), text(source, source.scale(), coefficient)]
+
+
+def text_to_write(source):
+    """A buffer that mostly has room, or is a place or two too short."""
+    currency, scale, coefficient = source.amount()
+    length = len(text_of(max(0, min(scale, 6)), coefficient))
+    room = source.number(length + source.pick(0, 0, 1, 5, -1, -2), (0, 1, 20, 64))
+    return [currency, scale, coefficient, room]
+
+
 NUMBERS_OF = {
     b"round": rounding,
     b"sum": Source.two_amounts,
@@ -128,4 +146,6 @@ NUMBERS_OF = {
     b"compound": compound,
     b"share": lambda source: source.amount() + source.weights(64, 10**6),
     b"vouchers": vouchers,
+    b"read": text_to_read,
+    b"write": text_to_write,
 }

@@ -1,6 +1,6 @@
 """desk: one answer line for each line of the input, in order."""
 
-from amounts import Amount, negation_of, order_of, rescaled, sum_of
+from amounts import CURRENCIES, negation_of, order_of, rescaled, sum_of
 from book import ALL_ZERO_BOOK, new_card, open_book, post, refund, settled, totals
 from command import ALL_WELL, READING_OR_WRITING_FAILED, run
 from compound import compound
@@ -12,7 +12,9 @@ from reading import Reading
 from refusals import Refusal
 from rounding import round_product, round_quotient
 from sharing import share
+from styles import InNumbers, style_of
 from tax import net_for, tax_from_gross, tax_from_net
+from texts import read_text, with_texts_read, write_text
 from vouchers import vouchers
 
 NOT_UNDERSTOOD = "?"
@@ -34,112 +36,126 @@ def said(answer, values_of):
     return accepted(values_of(answer))
 
 
-def filled(refusal, lent):
-    """The answer line of a call that fills a lent list: all its places, or the refusal."""
-    return accepted(lent) if refusal is None else refused(refusal)
+def filled(refusal, values):
+    """The answer line of a call that hands both back: all places of a lent list, a book's
+    step; or the refusal."""
+    return accepted(values) if refusal is None else refused(refusal)
 
 
 def one_value(value):
     return [value]
 
 
-def all_fields(fields):
-    return fields
+def coefficients(style, scale):
+    """How coefficients at the scale are printed in that style."""
+    return lambda found: [style.coefficient(scale, each) for each in found]
 
 
 class Desk:
-    """Answers one line after another; keeps the current book."""
+    """Answers one line after another; keeps the current book, and how that was opened.
+
+    Each verb's method takes the style of the line's answer and the line's values.
+    """
 
     def __init__(self):
         self.book = ALL_ZERO_BOOK
+        self.style_of_book = InNumbers
 
     def answer(self, line):
         """The answer to a line that isn't copied, as text."""
         asked = understood(line)
         if asked is None:
             return NOT_UNDERSTOOD
-        verb, numbers = asked
-        return VERBS[verb](self, numbers)
+        values = with_texts_read(asked.values)
+        if isinstance(values, Refusal):
+            return refused(values)
+        return VERBS[asked.verb](self, style_of(asked.by_code), *values)
 
-    def round(self, numbers):
+    def round(self, style, *numbers):
         call = round_quotient if len(numbers) == 3 else round_product
         return said(call(*numbers), one_value)
 
-    def sum(self, numbers):
-        return said(sum_of(Amount(*numbers[:3]), Amount(*numbers[3:])), all_fields)
+    def sum(self, style, one, other):
+        return said(sum_of(one, other), style.amount)
 
-    def order(self, numbers):
-        return said(order_of(Amount(*numbers[:3]), Amount(*numbers[3:])), one_value)
+    def order(self, style, one, other):
+        return said(order_of(one, other), one_value)
 
-    def negate(self, numbers):
-        return said(negation_of(Amount(*numbers)), all_fields)
+    def negate(self, style, amount):
+        return said(negation_of(amount), style.amount)
 
-    def rescale(self, numbers):
-        return said(rescaled(Amount(*numbers[:3]), *numbers[3:]), all_fields)
+    def rescale(self, style, amount, scale, mode):
+        return said(rescaled(amount, scale, mode), style.amount)
 
-    def convert(self, numbers):
-        return said(convert(Amount(*numbers[:3]), *numbers[3:]), all_fields)
+    def convert(self, style, amount, target, *step):
+        return said(convert(amount, target, *step), style.amount)
 
-    def interest(self, numbers):
-        principal = Amount(*numbers[:3])
-        rate, basis = numbers[3:5]
-        start, end = Date(*numbers[5:8]), Date(*numbers[8:11])
-        answer = interest(principal, rate, basis, start, end, numbers[11])
-        return said(answer, lambda found: [*found.amount, found.days])
+    def interest(self, style, principal, rate, basis, *rest):
+        start, end, mode = Date(*rest[:3]), Date(*rest[3:6]), rest[6]
+        answer = interest(principal, rate, basis, start, end, mode)
+        return said(answer, lambda found: [*style.amount(found.amount), found.days])
 
-    def tax_net(self, numbers):
-        return said(tax_from_net(Amount(*numbers[:3]), *numbers[3:]), all_fields)
+    def tax_net(self, style, net, rate, mode):
+        return said(tax_from_net(net, rate, mode), coefficients(style, net.scale))
 
-    def tax_gross(self, numbers):
-        return said(tax_from_gross(Amount(*numbers[:3]), *numbers[3:]), all_fields)
+    def tax_gross(self, style, gross, rate, mode):
+        return said(tax_from_gross(gross, rate, mode), coefficients(style, gross.scale))
 
-    def net_for(self, numbers):
-        return said(net_for(Amount(*numbers[:3]), *numbers[3:]), all_fields)
+    def net_for(self, style, gross, rate, mode):
+        return said(net_for(gross, rate, mode), style.amount)
 
-    def compound(self, numbers):
-        rate, periods, room = numbers[3:]
+    def compound(self, style, principal, rate, periods, room):
         lent = [-7] * room
-        return filled(compound(Amount(*numbers[:3]), rate, periods, lent), lent)
+        refusal = compound(principal, rate, periods, lent)
+        return filled(refusal, coefficients(style, principal.scale)(lent))
 
-    def share(self, numbers):
-        weights = numbers[3:]
+    def share(self, style, amount, *weights):
         lent = [0] * len(weights)
-        return filled(share(Amount(*numbers[:3]), weights, lent), lent)
+        refusal = share(amount, weights, lent)
+        return filled(refusal, coefficients(style, amount.scale)(lent))
 
-    def vouchers(self, numbers):
-        count, room = numbers[:2]
+    def vouchers(self, style, count, room, *weights):
         lent = [77] * room
-        return filled(vouchers(count, numbers[2:], lent), lent)
+        return filled(vouchers(count, weights, lent), lent)
 
-    def open(self, numbers):
-        refusal, self.book = open_book(numbers[0], numbers[1:])
+    def read(self, style, currency, text):
+        return said(read_text(currency, text), style.amount)
+
+    def write(self, style, amount, room):
+        lent = bytearray(b"_" * room)
+        refusal, length = write_text(amount, lent)
+        return filled(refusal, [length, lent.decode("ascii")])
+
+    def open(self, style, currency, *weights):
+        self.style_of_book = style
+        refusal, self.book = open_book(currency, weights)
         return "= open" if refusal is None else refused(refusal)
 
-    def post(self, numbers):
-        return self.step(post(self.book, Amount(*numbers)))
+    def post(self, style, amount):
+        return self.step(post(self.book, amount))
 
-    def refund(self, numbers):
-        return self.step(refund(self.book, Amount(*numbers)))
+    def refund(self, style, amount):
+        return self.step(refund(self.book, amount))
 
-    def card(self, numbers):
-        step = new_card(self.book, numbers)
+    def card(self, style, *weights):
+        step = new_card(self.book, weights)
         self.book = step.book
-        if step.refusal is not None:
-            return refused(step.refusal)
-        return accepted(["card", step.book.card])
+        return filled(step.refusal, ["card", step.book.card])
 
     def step(self, step):
         """The successor is the current book; of a refused step that is the book given."""
         self.book = step.book
-        if step.refusal is not None:
-            return refused(step.refusal)
-        return accepted([step.book.net, *step.payouts])
+        return filled(step.refusal, self.of_book([step.book.net, *step.payouts]))
 
-    def totals(self, numbers):
-        return said(totals(self.book), lambda found: [self.book.net, *found])
+    def of_book(self, found):
+        """Totals and payouts of the current book, in its own style at its currency's digits."""
+        return coefficients(self.style_of_book, CURRENCIES[self.book.currency].digits)(found)
 
-    def settled(self, numbers):
-        return said(settled(self.book), lambda found: [self.book.card, *found])
+    def totals(self, style):
+        return said(totals(self.book), lambda found: self.of_book([self.book.net, *found]))
+
+    def settled(self, style):
+        return said(settled(self.book), lambda found: [self.book.card, *self.of_book(found)])
 
 
 VERBS = {
@@ -156,6 +172,8 @@ VERBS = {
     b"compound": Desk.compound,
     b"share": Desk.share,
     b"vouchers": Desk.vouchers,
+    b"read": Desk.read,
+    b"write": Desk.write,
     b"open": Desk.open,
     b"post": Desk.post,
     b"refund": Desk.refund,

@@ -7,12 +7,13 @@ long, lines that are not understood, comments, any bytes.
 
 import sys
 
+from asks import landed
 from calls import NUMBERS_OF
 from histories import History
 from lines import FORMS
 from reading import BYTE_ORDER_MARK
 from source import Source
-from typed import NOT_NUMBERS, any_bytes, filled_up, line_of
+from typed import NOT_NUMBERS, any_bytes, filled_up, in_codes, line_of
 
 WORDS_OF_DOCUMENT_02 = (
     *(b"read", b"write", b"net-for", b"compound", b"card", b"settled", b"row", b"export"),
@@ -22,7 +23,10 @@ WORDS_OF_DOCUMENT_02 = (
 
 def single_call(source):
     verb = source.pick(*(verb for verb in NUMBERS_OF if verb in FORMS))
-    return line_of(source, verb, NUMBERS_OF[verb](source))
+    numbers = NUMBERS_OF[verb](source)
+    if landed(1) and source.chance(50):
+        numbers = in_codes(source, FORMS[verb][-1], numbers)
+    return line_of(source, verb, numbers)
 
 
 def not_understood(source):

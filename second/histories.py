@@ -2,7 +2,9 @@
 
 from amounts import CURRENCIES, L
 from asks import landed
-from typed import NOT_NUMBERS, filled_up, line_of
+from lines import FORMS
+from typed import NOT_NUMBERS, code, filled_up, in_codes, line_of
+from words import WHOLE_NUMBER
 
 MOST_LINES = 40
 
@@ -47,6 +49,14 @@ def opening(source, currency):
     return mistyped_opening(source, currency) if dice < 97 else long_opening(source, currency)
 
 
+def coded(source, opening):
+    """The opening with a code in its currency's place, where that is a number."""
+    currency = opening.split()[1:2]
+    if not currency or not WHOLE_NUMBER.fullmatch(currency[0]):
+        return opening
+    return opening.replace(currency[0], code(source, int(currency[0])), 1)
+
+
 def card_of_another_kind(source, count):
     """One of another count, one that breaks the rule, a mistyped one, one that is too long."""
     if source.chance(10):
@@ -69,6 +79,9 @@ class History:
         self.source = source
         self.currency = source.number(source.pick(0, 0, 0, source.below(21)), (0, 20, 21))
         self.opening = opening(source, self.currency)
+        self.by_code = landed(1) and source.chance(50)
+        if self.by_code:
+            self.opening = coded(source, self.opening)
         self.count = min(16, max(1, len(self.opening.split()) - 2))
         self.net = 0
         self.settled = 0
@@ -103,6 +116,8 @@ class History:
             numbers = source.own_digits_amount()
         elif 0 <= coefficient <= room:
             self.net += coefficient if verb == b"post" else -coefficient
+        if landed(1) and source.chance(80 if self.by_code else 20):
+            numbers = in_codes(source, FORMS[verb][-1], numbers)
         return line_of(source, verb, numbers)
 
     def card(self):

@@ -1,9 +1,32 @@
-"""A line: what its words are, which lines are understood, what the library's types hold."""
+"""A line: what its words are, and which lines are understood."""
 
-import re
-from typing import NamedTuple, Optional
+from typing import Callable, NamedTuple, Optional
 
 from asks import LANDED
+from words import (
+    AMOUNT,
+    BASIS,
+    CURRENCY,
+    DAY,
+    DIVISOR,
+    FACTOR,
+    MODE,
+    MONTH,
+    NUMERATOR,
+    PERIODS,
+    RATE,
+    SCALE,
+    STEP,
+    TEXT,
+    VOUCHERS,
+    WEIGHT,
+    YEAR,
+    NotUnderstood,
+    Words,
+    room,
+)
+
+DATES = (YEAR, MONTH, DAY, YEAR, MONTH, DAY)
 
 
 def is_copied(line):
@@ -11,70 +34,49 @@ def is_copied(line):
     return not line.too_long and (line.content == b"" or line.content.startswith(b"#"))
 
 
-def unsigned(bits):
-    """What such a type can't hold is passed as its largest value."""
-    largest = 2**bits - 1
-    return lambda number: number if 0 <= number <= largest else largest
-
-
-def signed(bits):
-    """What is above such a type is passed as its largest value, what is below as its least."""
-    least, largest = -(2 ** (bits - 1)), 2 ** (bits - 1) - 1
-    return lambda number: max(least, min(number, largest))
-
-
-def room(limit):
-    """The places of a lent list: a number over the limit, or below 0, is passed as the limit."""
-    return lambda number: number if 0 <= number <= limit else limit
-
-
-MODE = SCALE = STEP = CURRENCY = BASIS = MONTH = DAY = unsigned(8)
-YEAR = unsigned(16)
-RATE = WEIGHT = PERIODS = VOUCHERS = unsigned(32)
-DIVISOR = unsigned(64)
-COEFFICIENT = NUMERATOR = FACTOR = signed(64)
-AMOUNT = (CURRENCY, SCALE, COEFFICIENT)
-DATE = (YEAR, MONTH, DAY)
-
-
 class Form(NamedTuple):
-    """The numbers that a verb takes, and what any further ones are (None: none are taken)."""
+    """What stands behind a verb, and what any further words are (None: none are taken)."""
 
-    numbers: tuple
-    further: Optional[object] = None
+    kinds: tuple
+    further: Optional[Callable] = None
 
-    def takes(self, count):
-        """Can that many numbers stand behind the verb?"""
-        further = count - len(self.numbers)
-        return further == 0 or (further > 0 and self.further is not None)
+    def values(self, words):
+        """The values of all the words, as the library's types hold them."""
+        found = [kind(words) for kind in self.kinds]
+        while self.further is not None and not words.are_all_taken():
+            found.append(self.further(words))
+        if not words.are_all_taken():
+            raise NotUnderstood
+        return found
 
-    def kinds(self, count):
-        return self.numbers + (self.further,) * (count - len(self.numbers))
 
-
-# of a verb's forms no two take the same count of numbers
+# of a verb's forms no two take the same words
 FORMS = {
     b"round": [Form((MODE, NUMERATOR, DIVISOR))],
-    b"sum": [Form(AMOUNT + AMOUNT)],
-    b"order": [Form(AMOUNT + AMOUNT)],
-    b"negate": [Form(AMOUNT)],
-    b"rescale": [Form(AMOUNT + (SCALE, MODE))],
-    b"convert": [Form(AMOUNT + (CURRENCY,))],
-    b"interest": [Form(AMOUNT + (RATE, BASIS) + DATE + DATE + (MODE,))],
-    b"tax-net": [Form(AMOUNT + (RATE, MODE))],
-    b"tax-gross": [Form(AMOUNT + (RATE, MODE))],
-    b"share": [Form(AMOUNT, further=WEIGHT)],
+    b"sum": [Form((AMOUNT, AMOUNT))],
+    b"order": [Form((AMOUNT, AMOUNT))],
+    b"negate": [Form((AMOUNT,))],
+    b"rescale": [Form((AMOUNT, SCALE, MODE))],
+    b"convert": [Form((AMOUNT, CURRENCY))],
+    b"interest": [Form((AMOUNT, RATE, BASIS) + DATES + (MODE,))],
+    b"tax-net": [Form((AMOUNT, RATE, MODE))],
+    b"tax-gross": [Form((AMOUNT, RATE, MODE))],
+    b"share": [Form((AMOUNT,), further=WEIGHT)],
     b"open": [Form((CURRENCY,), further=WEIGHT)],
-    b"post": [Form(AMOUNT)],
-    b"refund": [Form(AMOUNT)],
+    b"post": [Form((AMOUNT,))],
+    b"refund": [Form((AMOUNT,))],
     b"totals": [Form(())],
 }
 FORMS_OF_ASKS = {
-    5: {b"net-for": [Form(AMOUNT + (RATE, MODE))]},
-    6: {b"compound": [Form(AMOUNT + (RATE, PERIODS, room(128)))]},
+    1: {
+        b"read": [Form((CURRENCY, TEXT))],
+        b"write": [Form((AMOUNT, room(64)))],
+    },
+    5: {b"net-for": [Form((AMOUNT, RATE, MODE))]},
+    6: {b"compound": [Form((AMOUNT, RATE, PERIODS, room(128)))]},
     7: {
         b"round": [Form((MODE, FACTOR, FACTOR, DIVISOR))],
-        b"convert": [Form(AMOUNT + (CURRENCY, STEP))],
+        b"convert": [Form((AMOUNT, CURRENCY, STEP))],
     },
     9: {b"card": [Form((), further=WEIGHT)], b"settled": [Form(())]},
     12: {b"vouchers": [Form((VOUCHERS, room(80)), further=WEIGHT)]},
@@ -83,7 +85,13 @@ for ask in sorted(LANDED):
     for verb, forms in FORMS_OF_ASKS.get(ask, {}).items():
         FORMS[verb] = FORMS.get(verb, []) + forms
 
-WHOLE_NUMBER = re.compile(rb"-?[0-9]+")
+
+class Asked(NamedTuple):
+    """What a line that is understood asks; `by_code`: its first currency was a code."""
+
+    verb: bytes
+    values: list
+    by_code: bool
 
 
 def words_of(line):
@@ -97,13 +105,15 @@ def first_word_is(verb, line):
 
 
 def understood(line):
-    """(verb, numbers as the library's types hold them), or None for a line not understood."""
+    """What the line asks, or None for a line that is not understood."""
     words = words_of(line)
-    if line.too_long or not words or not all(map(WHOLE_NUMBER.fullmatch, words[1:])):
+    if line.too_long or not words:
         return None
-    verb, said = words[0], words[1:]
-    for form in FORMS.get(verb, []):
-        if form.takes(len(said)):
-            kinds = form.kinds(len(said))
-            return verb, [kind(int(word)) for kind, word in zip(kinds, said, strict=True)]
+    for form in FORMS.get(words[0], []):
+        behind = Words(words[1:])
+        try:
+            values = form.values(behind)
+        except NotUnderstood:
+            continue
+        return Asked(words[0], values, bool(behind.by_code))
     return None

@@ -2,9 +2,11 @@
 
 from collections import defaultdict
 
+from amounts import CURRENCIES
 from book import ALL_ZERO_BOOK, PARTNERS, post, refund, totals
 from command import ALL_WELL, CHECK_FAILED, NOT_ALL_ACCEPTED
 from rounding import ceiling_of, floor_of
+from styles import InNumbers
 
 STEPS = {b"post": post, b"refund": refund}
 CHECK_OK, CHECK_FAILS = "check ok", "check FAILED"
@@ -29,9 +31,10 @@ class Report:
     Where no book was opened it is the all-zero one, to which every line after is refused.
     """
 
-    def __init__(self, heading, book=ALL_ZERO_BOOK):
+    def __init__(self, heading, book=ALL_ZERO_BOOK, style=InNumbers):
         self.heading = heading
         self.book = book
+        self.style = style
         self.is_opened = book != ALL_ZERO_BOOK
         self.accepted = 0
         self.not_understood = Tally()
@@ -77,11 +80,16 @@ class Report:
 
     def lines_of_totals(self):
         posted, refunded = self.sums[b"post"], self.sums[b"refund"]
-        yield f"posted {posted} refunded {refunded} net {self.book.net}"
+        sums = map(self.say, (posted, refunded, self.book.net))
+        yield "posted {} refunded {} net {}".format(*sums)
         partners = self.partners()
         for partner in partners:
-            yield partner.line()
+            yield partner.line(self.say)
         yield check(partners, posted - refunded, self.book.net)
+
+    def say(self, coefficient):
+        """A coefficient in the style of the book, at its currency's digits."""
+        return self.style.coefficient(CURRENCIES[self.book.currency].digits, coefficient)
 
     def partners(self):
         running = totals(self.book)
@@ -112,10 +120,11 @@ class Partner:
         self.least = floor_of(book.net * self.weight, W)
         self.most = ceiling_of(book.net * self.weight, W)
 
-    def line(self):
+    def line(self, say):
         return (
-            f"partner {self.place} weight {self.weight} paid {self.paid} "
-            f"taken {self.taken} total {self.total} least {self.least} most {self.most}"
+            f"partner {self.place} weight {self.weight} paid {say(self.paid)} "
+            f"taken {say(self.taken)} total {say(self.total)} "
+            f"least {say(self.least)} most {say(self.most)}"
         )
 
     def holds(self):
@@ -160,14 +169,15 @@ class Cards:
             self.least[partner.place] += partner.least
             self.most[partner.place] += partner.most
 
-    def lines(self, book):
-        """The lines at the end of a book with more than one card."""
+    def lines(self, last_report):
+        """The lines at the end of a book with more than one card, in the book's style."""
+        book, say = last_report.book, last_report.say
         running = totals(book)
         together = [book.settled[place] + running[place] for place in range(book.count)]
         for place, total in enumerate(together):
             yield (
-                f"settled {place} cards {self.number} together {total} "
-                f"least {self.least[place]} most {self.most[place]}"
+                f"settled {place} cards {self.number} together {say(total)} "
+                f"least {say(self.least[place])} most {say(self.most[place])}"
             )
         yield self.check(together)
 

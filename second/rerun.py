@@ -1,6 +1,5 @@
 """rerun: runs the postings and refunds of each book again and reports on every book."""
 
-from amounts import Amount
 from asks import landed
 from book import new_card, open_book
 from command import (
@@ -12,7 +11,10 @@ from command import (
 )
 from lines import first_word_is, is_copied, understood
 from reading import Reading
+from refusals import Refusal
 from reports import STEPS, Cards, Report, check_failed
+from styles import style_of
+from texts import with_texts_read
 
 OPEN, CARD = b"open", b"card"
 # verbs whose line ends the book also where it is not understood
@@ -24,11 +26,12 @@ def listed(weights):
     return " ".join(str(weight) for weight in weights)
 
 
-def report_on_opening(currency, weights):
+def report_on_opening(style, currency, weights):
     refusal, book = open_book(currency, weights)
     if refusal is not None:
         return Report(f"book refused {refusal.number}")
-    return Report(f"book {currency} weights {listed(weights)}", book)
+    heading = f"book {style.currency(currency)} weights {listed(weights)}"
+    return Report(heading, book, style)
 
 
 class Rerun:
@@ -42,17 +45,29 @@ class Rerun:
 
     def take(self, line, line_number):
         """Counts a line that is neither empty nor a comment."""
-        verb, numbers = understood(line) or (None, [])
-        if verb == OPEN:
-            self.begin(report_on_opening(numbers[0], numbers[1:]))
-        elif verb == CARD:
-            self.take_card(numbers, line_number)
-        elif verb in STEPS:
-            self.report.take(verb, Amount(*numbers), line_number)
+        asked = understood(line)
+        if asked is None or asked.verb not in (OPEN, CARD, *STEPS):
+            self.take_not_understood(line, line_number)
+        elif asked.verb == OPEN:
+            currency, *weights = asked.values
+            self.begin(report_on_opening(style_of(asked.by_code), currency, weights))
+        elif asked.verb == CARD:
+            self.take_card(asked.values, line_number)
         else:
-            if any(first_word_is(ending, line) for ending in ENDING_VERBS):
-                self.begin(Report("book not understood"))
-            self.report.not_understood.add(line_number)
+            self.take_step(asked.verb, asked.values, line_number)
+
+    def take_not_understood(self, line, line_number):
+        if any(first_word_is(ending, line) for ending in ENDING_VERBS):
+            self.begin(Report("book not understood"))
+        self.report.not_understood.add(line_number)
+
+    def take_step(self, verb, values, line_number):
+        """A posting or a refund; a text that is refused counts as refused with its number."""
+        read = with_texts_read(values)
+        if isinstance(read, Refusal):
+            self.report.refuse(read, line_number)
+        else:
+            self.report.take(verb, read[0], line_number)
 
     def take_card(self, weights, line_number):
         """An accepted card is counted in no part; a refused one in the part it stands in."""
@@ -61,7 +76,8 @@ class Rerun:
             self.report.refuse(step.refusal, line_number)
             return
         self.write_report()
-        self.report = Report(f"card {step.book.card} weights {listed(weights)}", step.book)
+        heading = f"card {step.book.card} weights {listed(weights)}"
+        self.report = Report(heading, step.book, self.report.style)
 
     def begin(self, report):
         self.end_book()
@@ -71,7 +87,7 @@ class Rerun:
         """Writes the last report on a book, and what its cards come to if it has more than one."""
         self.write_report()
         if self.cards.number > 1:
-            lines = list(self.cards.lines(self.report.book))
+            lines = list(self.cards.lines(self.report))
             self.statuses.add(CHECK_FAILED if check_failed(lines) else ALL_WELL)
             self.write_all(lines)
         self.cards = Cards()

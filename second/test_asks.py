@@ -13,6 +13,7 @@ from fractions import Fraction
 import checks
 import test_cards
 import test_lines
+import test_texts
 from amounts import Amount, L
 from checks import holds, same
 from compound import compound
@@ -190,6 +191,7 @@ CHECKS = (
     ({7}, products_and_larger_amounts),
     ({12}, vouchers_by_highest_average),
     *test_cards.CHECKS,
+    *test_texts.CHECKS,
     (asks.WRITTEN, fixed_cases_are_understood),
     (set(), test_lines.lines_of_asks),
     (set(), test_lines.answers_have_the_right_form),

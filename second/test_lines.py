@@ -87,6 +87,11 @@ def openings_at_the_desk():
 def lines_of_asks():
     """A line of an ask is understood from its landing on, and not before."""
     for ask, line in (
+        (1, b"read 0 -12.50"),
+        (1, b"write 0 2 150 9"),
+        (1, b"negate EUR 1.50"),
+        (1, b"open EUR 5 3 2"),
+        (1, b"convert 2 2 10000 FRF"),
         (5, b"net-for 0 2 4 200000 4"),
         (6, b"compound 0 2 100 500 3 4"),
         (7, b"round 6 3 5 2"),
@@ -105,7 +110,7 @@ def lines_of_asks():
 
 def answers_have_the_right_form():
     """Each fixed and each generated line has one answer of the page's forms; no report fails."""
-    words = rb"= open|= card \d+|= (less|equal|greater)|=( -?\d+)+|! (7 (first|second)|\d+)|\?|#.*|"
+    words = rb"=( [-.0-9A-Z_a-z]+)*|! (7 (first|second)|\d+)|\?|#.*|"
     form = re.compile(words, re.DOTALL)
     inputs = [b"".join(generated(seed, 1500)) for seed in range(4)]
     inputs.append((HERE / "cases.txt").read_bytes())
