@@ -1,5 +1,7 @@
 """The numbers of a generated line, for each verb that is a call of its own."""
 
+import struct
+
 from amounts import Amount, L
 from asks import landed
 from dates import BASES
@@ -132,6 +134,41 @@ def text_to_write(source):
     return [currency, scale, coefficient, room]
 
 
+def bits_of(number):
+    return struct.unpack("<Q", struct.pack("<d", number))[0]
+
+
+def double(source, scale):
+    """The bits of a double: decimals, halves of the scale's unit, their neighbours, about L,
+    the ends of the range, what is no number, and any bits."""
+    dice, unit = source.below(100), 10 ** max(0, min(scale, 3))
+    if dice < 4:
+        return source.number(source.below(2**64), (0, 2**63, 2**64 - 1))
+    if dice < 12:
+        edges = (0.0, -0.0, 5e-324, 2.0**-1022, 1.7976931348623157e308, float("inf"), float("nan"))
+        return bits_of(source.pick(*edges)) + source.pick(0, 0, 1, 2**63)
+    if dice < 20:
+        worth = (L + source.pick(0, 0.25, 0.5, 0.75, 1)) / unit
+    elif dice < 55:
+        worth = (2 * source.below(10 ** source.pick(1, 3, 6)) + 1) / (2 * unit)
+    elif dice < 70:
+        worth = source.below(10**6) / 2 ** source.below(12)
+    else:
+        worth = source.magnitude() / 10 ** source.below(4)
+    neighbour = source.pick(-1, 0, 0, 0, 1) if worth > 0 else 0
+    return bits_of(source.pick(1, 1, -1) * worth) + neighbour
+
+
+def row(source):
+    scale = source.number(source.below(4), (0, 3))
+    two = [double(source, scale), double(source, scale)]
+    return [source.currency(), scale, source.mode()] + two
+
+
+def exported(source):
+    return [source.currency(), source.number(source.below(4), (0, 3)), source.coefficient()]
+
+
 NUMBERS_OF = {
     b"round": rounding,
     b"sum": Source.two_amounts,
@@ -146,6 +183,8 @@ NUMBERS_OF = {
     b"compound": compound,
     b"share": lambda source: source.amount() + source.weights(64, 10**6),
     b"vouchers": vouchers,
+    b"row": row,
+    b"export": exported,
     b"read": text_to_read,
     b"write": text_to_write,
 }

@@ -5,6 +5,7 @@ from book import ALL_ZERO_BOOK, new_card, open_book, post, refund, settled, tota
 from command import ALL_WELL, READING_OR_WRITING_FAILED, run
 from compound import compound
 from dates import Date
+from doubles import export, row_of
 from euro import convert
 from interest import interest
 from lines import is_copied, understood
@@ -126,6 +127,12 @@ class Desk:
         refusal, length = write_text(amount, lent)
         return filled(refusal, [length, lent.decode("ascii")])
 
+    def row(self, style, currency, scale, mode, net, tax):
+        return said(row_of(currency, scale, mode, net, tax), coefficients(style, scale))
+
+    def export(self, style, amount):
+        return said(export(amount), one_value)
+
     def open(self, style, currency, *weights):
         self.style_of_book = style
         refusal, self.book = open_book(currency, weights)
@@ -174,6 +181,8 @@ VERBS = {
     b"vouchers": Desk.vouchers,
     b"read": Desk.read,
     b"write": Desk.write,
+    b"row": Desk.row,
+    b"export": Desk.export,
     b"open": Desk.open,
     b"post": Desk.post,
     b"refund": Desk.refund,

@@ -6,6 +6,7 @@ from asks import LANDED
 from words import (
     AMOUNT,
     BASIS,
+    BITS,
     CURRENCY,
     DAY,
     DIVISOR,
@@ -79,6 +80,10 @@ FORMS_OF_ASKS = {
         b"convert": [Form((AMOUNT, CURRENCY, STEP))],
     },
     9: {b"card": [Form((), further=WEIGHT)], b"settled": [Form(())]},
+    10: {
+        b"row": [Form((CURRENCY, SCALE, MODE, BITS, BITS))],
+        b"export": [Form((AMOUNT,))],
+    },
     12: {b"vouchers": [Form((VOUCHERS, room(80)), further=WEIGHT)]},
 }
 for ask in sorted(LANDED):

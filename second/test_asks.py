@@ -12,6 +12,7 @@ from fractions import Fraction
 
 import checks
 import test_cards
+import test_doubles
 import test_lines
 import test_texts
 from amounts import Amount, L
@@ -192,6 +193,7 @@ CHECKS = (
     ({12}, vouchers_by_highest_average),
     *test_cards.CHECKS,
     *test_texts.CHECKS,
+    *test_doubles.CHECKS,
     (asks.WRITTEN, fixed_cases_are_understood),
     (set(), test_lines.lines_of_asks),
     (set(), test_lines.answers_have_the_right_form),

@@ -98,6 +98,8 @@ def lines_of_asks():
         (7, b"convert 2 2 10000 4 3"),
         (9, b"card 1"),
         (9, b"settled"),
+        (10, b"row 0 2 4 0 0"),
+        (10, b"export 0 2 150"),
         (12, b"vouchers 10 3 5 3 2"),
     ):
         same(answers(line) != [b"?"], landed(ask))

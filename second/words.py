@@ -102,5 +102,5 @@ def TEXT(words):
 MODE = SCALE = STEP = BASIS = MONTH = DAY = number(unsigned(8))
 YEAR = number(unsigned(16))
 RATE = WEIGHT = PERIODS = VOUCHERS = number(unsigned(32))
-DIVISOR = number(unsigned(64))
+DIVISOR = BITS = number(unsigned(64))
 COEFFICIENT = NUMERATOR = FACTOR = number(signed(64))
