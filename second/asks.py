@@ -5,7 +5,7 @@ Landing an ask is its number in LANDED: its words, types and limits, its fixed c
 Until then its words are unknown and nothing of it is seen.
 """
 
-WRITTEN = frozenset({1, 2, 5, 6, 7, 9, 10, 12})
+WRITTEN = frozenset({1, 2, 3, 5, 6, 7, 9, 10, 11, 12, 13})
 LANDED = frozenset()
 
 

@@ -6,6 +6,7 @@ from amounts import Amount, L
 from asks import landed
 from dates import BASES
 from source import Source
+from statement_calls import read_run, reasons, statement
 from tax import split_from_net
 from texts import text_of
 from typed import text
@@ -185,6 +186,12 @@ NUMBERS_OF = {
     b"vouchers": vouchers,
     b"row": row,
     b"export": exported,
+    b"statement": statement,
+    b"check": read_run,
+    b"view": read_run,
+    b"reasons": reasons,
+    b"check-any": read_run,
+    b"view-any": read_run,
     b"read": text_to_read,
     b"write": text_to_write,
 }

@@ -13,6 +13,8 @@ from reading import Reading
 from refusals import Refusal
 from rounding import round_product, round_quotient
 from sharing import share
+from statements import opened_view, read_any, read_statement, records_of
+from statements import write_reasons, write_statement
 from styles import InNumbers, style_of
 from tax import net_for, tax_from_gross, tax_from_net
 from texts import read_text, with_texts_read, write_text
@@ -50,6 +52,15 @@ def one_value(value):
 def coefficients(style, scale):
     """How coefficients at the scale are printed in that style."""
     return lambda found: [style.coefficient(scale, each) for each in found]
+
+
+def records_said(view, with_reasons):
+    """The one currency and every record, or nothing for an empty statement."""
+    records = records_of(view)
+    values = [record.currency for record in records[:1]]
+    for record in records:
+        values += [record.place, record.coefficient] + [record.reason] * with_reasons
+    return values
 
 
 class Desk:
@@ -133,6 +144,29 @@ class Desk:
     def export(self, style, amount):
         return said(export(amount), one_value)
 
+    def statement(self, style, currency, start, room, lists):
+        lent = bytearray(b"\xa5" * room)
+        refusal, end = write_statement(currency, *lists, lent, start)
+        return filled(refusal, [end, lent.hex()])
+
+    def reasons(self, style, currency, start, room, lists):
+        lent = bytearray(b"\xa5" * room)
+        refusal, end = write_reasons(currency, *lists, lent, start)
+        return filled(refusal, [end, lent.hex()])
+
+    def check(self, style, data):
+        return said(read_statement(data), lambda found: [found.first, found.count, found.sum])
+
+    def check_any(self, style, data):
+        return said(read_any(data), lambda found: found)
+
+    def view(self, style, data):
+        return said(opened_view(data), lambda view: records_said(view, with_reasons=False))
+
+    def view_any(self, style, data):
+        found = opened_view(data, read_any)
+        return said(found, lambda view: records_said(view, with_reasons=True))
+
     def open(self, style, currency, *weights):
         self.style_of_book = style
         refusal, self.book = open_book(currency, weights)
@@ -141,7 +175,7 @@ class Desk:
     def post(self, style, amount):
         return self.step(post(self.book, amount))
 
-    def refund(self, style, amount):
+    def refund(self, style, amount, reason=0):
         return self.step(refund(self.book, amount))
 
     def card(self, style, *weights):
@@ -183,6 +217,12 @@ VERBS = {
     b"write": Desk.write,
     b"row": Desk.row,
     b"export": Desk.export,
+    b"statement": Desk.statement,
+    b"reasons": Desk.reasons,
+    b"check": Desk.check,
+    b"check-any": Desk.check_any,
+    b"view": Desk.view,
+    b"view-any": Desk.view_any,
     b"open": Desk.open,
     b"post": Desk.post,
     b"refund": Desk.refund,

@@ -116,6 +116,8 @@ class History:
             numbers = source.own_digits_amount()
         elif 0 <= coefficient <= room:
             self.net += coefficient if verb == b"post" else -coefficient
+        if landed(13) and verb == b"refund" and source.chance(40):
+            numbers.append(source.number(source.below(100), (0, 99)))
         if landed(1) and source.chance(80 if self.by_code else 20):
             numbers = in_codes(source, FORMS[verb][-1], numbers)
         return line_of(source, verb, numbers)

@@ -3,29 +3,9 @@
 from typing import Callable, NamedTuple, Optional
 
 from asks import LANDED
-from words import (
-    AMOUNT,
-    BASIS,
-    BITS,
-    CURRENCY,
-    DAY,
-    DIVISOR,
-    FACTOR,
-    MODE,
-    MONTH,
-    NUMERATOR,
-    PERIODS,
-    RATE,
-    SCALE,
-    STEP,
-    TEXT,
-    VOUCHERS,
-    WEIGHT,
-    YEAR,
-    NotUnderstood,
-    Words,
-    room,
-)
+from words import AMOUNT, BASIS, BITS, COEFFICIENT, CURRENCY, DAY, DIVISOR, FACTOR, HEX, MODE
+from words import MONTH, NUMERATOR, PERIODS, PLACE, RATE, REASON, REASON_OF_REFUND, SCALE, START
+from words import STEP, TEXT, VOUCHERS, WEIGHT, YEAR, NotUnderstood, Words, lists, room
 
 DATES = (YEAR, MONTH, DAY, YEAR, MONTH, DAY)
 
@@ -73,6 +53,10 @@ FORMS_OF_ASKS = {
         b"read": [Form((CURRENCY, TEXT))],
         b"write": [Form((AMOUNT, room(64)))],
     },
+    3: {
+        b"statement": [Form((CURRENCY, START, room(1_500), lists(PLACE, COEFFICIENT)))],
+        b"check": [Form((HEX,))],
+    },
     5: {b"net-for": [Form((AMOUNT, RATE, MODE))]},
     6: {b"compound": [Form((AMOUNT, RATE, PERIODS, room(128)))]},
     7: {
@@ -84,7 +68,14 @@ FORMS_OF_ASKS = {
         b"row": [Form((CURRENCY, SCALE, MODE, BITS, BITS))],
         b"export": [Form((AMOUNT,))],
     },
+    11: {b"view": [Form((HEX,))]},
     12: {b"vouchers": [Form((VOUCHERS, room(80)), further=WEIGHT)]},
+    13: {
+        b"reasons": [Form((CURRENCY, START, room(1_500), lists(PLACE, REASON, COEFFICIENT)))],
+        b"check-any": [Form((HEX,))],
+        b"view-any": [Form((HEX,))],
+        b"refund": [Form((AMOUNT, REASON_OF_REFUND))],
+    },
 }
 for ask in sorted(LANDED):
     for verb, forms in FORMS_OF_ASKS.get(ask, {}).items():

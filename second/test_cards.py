@@ -9,8 +9,8 @@ from checks import holds, same
 from command import CHECK_FAILED
 from refusals import Refusal
 from reports import Cards
-from rerun import Rerun, rerun
-from test_lines import lines, printed
+from rerun import Rerun
+from test_lines import lines, reports
 
 SOURCE = random.Random(9)
 
@@ -122,7 +122,8 @@ def laws_of_cards():
                 call = SOURCE.choice((post, post, refund))
                 book = call(book, eur(SOURCE.randrange(SOURCE.choice((9, 10**6))))).book
             together = [s + t for s, t in zip(settled(book), totals(book))]
-            now = [e + Fraction(book.net * w, sum(book.weights)) for e, w in zip(exact, book.weights)]
+            W = sum(book.weights)
+            now = [e + Fraction(book.net * w, W) for e, w in zip(exact, book.weights)]
             same((sum(together), book.card), (all_nets + book.net, card))
             holds(all(abs(t - e) < card for t, e in zip(together, now)))
             exact, all_nets = now, all_nets + book.net
@@ -183,11 +184,11 @@ card 1 1
 post 0 2 1
 """
     for line in (b"card x", b"card 1 1 -", b"card" + b" 1" * 2_000, b" " * 5_000 + b"card 1 1"):
-        same(printed(rerun, quarter % line).decode("ascii"), PARTS)
-    one_card = printed(rerun, b"open 0 5 3\ncard 1\npost 0 2 8\n")
-    holds(b"settled" not in one_card and one_card.count(b"check ok") == 1)
+        same(reports(quarter % line), PARTS)
+    one_card = reports(b"open 0 5 3\ncard 1\npost 0 2 8\n")
+    holds("settled" not in one_card and one_card.count("check ok") == 1)
     for line in (b"Card 1 1", b"cards", b"card\t1 1"):
-        holds(b"book not understood" not in printed(rerun, quarter % line))
+        holds("book not understood" not in reports(quarter % line))
 
 
 def last_check_of_cards():

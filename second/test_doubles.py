@@ -85,7 +85,8 @@ def some_bits():
     kind = SOURCE.randrange(4)
     if kind == 0:
         return SOURCE.randrange(2**64)
-    worth = SOURCE.choice((SOURCE.random(), SOURCE.randrange(10**9))) * SOURCE.choice((1, 0.5, 0.01))
+    worth = SOURCE.choice((SOURCE.random(), SOURCE.randrange(10**9)))
+    worth *= SOURCE.choice((1, 0.5, 0.01))
     return bits_of(SOURCE.choice((1, -1)) * worth)
 
 

@@ -86,7 +86,15 @@ def openings_at_the_desk():
 
 def lines_of_asks():
     """A line of an ask is understood from its landing on, and not before."""
+    empty = b"00" * 16 + b"0100" + b"00" * 6
     for ask, line in (
+        (3, b"statement 0 0 40 1 2 -1250"),
+        (3, b"check " + empty),
+        (11, b"view " + empty),
+        (13, b"reasons 0 0 48 1 1 2 7 -1250"),
+        (13, b"check-any " + empty),
+        (13, b"view-any " + empty),
+        (13, b"refund 0 2 1 99"),
         (1, b"read 0 -12.50"),
         (1, b"write 0 2 150 9"),
         (1, b"negate EUR 1.50"),

@@ -5,8 +5,7 @@ import itertools
 from amounts import CURRENCIES, Amount, L
 from checks import holds, same
 from refusals import Refusal
-from rerun import rerun
-from test_lines import answers, lines, printed
+from test_lines import answers, lines, reports
 from texts import read_text, text_of, write_text
 
 LARGEST_TEXT = f"{L // 100}.{L % 100}"
@@ -187,8 +186,7 @@ post EUR 0.05
 open XXX 2 1
 post EUR 0.05
 """
-    found = printed(rerun, quarter).decode("ascii")
-    same(found, REPORTS)
+    same(reports(quarter), REPORTS)
 
 
 def texts_with_cards():
@@ -200,7 +198,7 @@ card 1 1 -> = card 2
 settled -> = 2 0.06 0.03{zeros}
 totals -> = 0.00 0.00 0.00{zeros}
 """)
-    found = printed(rerun, b"open EUR 5 3\npost EUR 0.09\ncard 1 1\npost EUR 1.05\n").decode("ascii")
+    found = reports(b"open EUR 5 3\npost EUR 0.09\ncard 1 1\npost EUR 1.05\n")
     same(found.split("\n")[6:14], [
         "card 2 weights 1 1",
         "lines 1 accepted 0 refused 0 not understood",

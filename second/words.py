@@ -4,11 +4,13 @@ import re
 
 from amounts import CURRENCIES, Amount
 from asks import landed
+from statements import LARGEST_REASON
 from texts import AmountText
 
 WHOLE_NUMBER = re.compile(rb"-?[0-9]+")
 NUMBER_OF_CODE = {row.code.encode("ascii"): number for number, row in enumerate(CURRENCIES)}
 NO_CURRENCY = 255
+HEX_DIGITS = re.compile(rb"(?:[0-9a-fA-F]{2}){1,1500}")
 
 
 class NotUnderstood(Exception):
@@ -99,8 +101,42 @@ def TEXT(words):
     return words.next()
 
 
+def HEX(words):
+    """Bytes: two digits for each, at most 1,500 of them, or `-` for none."""
+    word = words.next()
+    if word == b"-":
+        return b""
+    if HEX_DIGITS.fullmatch(word) is None:
+        raise NotUnderstood
+    return bytes.fromhex(word.decode("ascii"))
+
+
+def REASON_OF_REFUND(words):
+    """A reason code from 0 to 99; no other number can stand there."""
+    reason = words.next_number()
+    if not 0 <= reason <= LARGEST_REASON:
+        raise NotUnderstood
+    return reason
+
+
+def lists(*kinds):
+    """A count for each list but the last, then the lists; the last one has the words left."""
+
+    def taken(words):
+        counts = [words.next_number() for _ in kinds[:-1]]
+        if min(counts) < 0:
+            raise NotUnderstood
+        found = [[kind(words) for _ in range(count)] for kind, count in zip(kinds, counts)]
+        last = []
+        while not words.are_all_taken():
+            last.append(kinds[-1](words))
+        return found + [last]
+
+    return taken
+
+
 MODE = SCALE = STEP = BASIS = MONTH = DAY = number(unsigned(8))
-YEAR = number(unsigned(16))
+YEAR = PLACE = REASON = number(unsigned(16))
 RATE = WEIGHT = PERIODS = VOUCHERS = number(unsigned(32))
-DIVISOR = BITS = number(unsigned(64))
+DIVISOR = BITS = START = number(unsigned(64))
 COEFFICIENT = NUMERATOR = FACTOR = number(signed(64))
