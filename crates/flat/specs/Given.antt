@@ -4,7 +4,7 @@ use Prim.Native.Nat.{ℕ, min}
 use lib.IntN.{ℤ, pos, negsuc}
 use Rattle.amount.specs.declared.Amount.{Amount}
 use Rattle.currency.specs.declared.Currency.{Currency}
-use Rattle.interest.specs.declared.Date.{Date}
+use Rattle.calendar.specs.declared.Date.{Date}
 use Rattle.book.specs.declared.Book.{Book}
 use Rattle.flat.specs.declared.MkbAmount.{MkbAmount}
 use Rattle.flat.specs.declared.MkbDate.{MkbDate}

@@ -1,8 +1,8 @@
 // A day count, flattened.
 use crate::MkbDays;
-use interest::DayCount;
+use calendar::DayCount;
 ghost use mathlib.Core.Path.{_≡_};
-ghost use Rattle.interest.specs.DaysSaid.{meansDays};
+ghost use Rattle.calendar.specs.DaysSaid.{meansDays};
 ghost use Rattle.flat.specs.Answers.{daysOf};
 
 pub fn flat_days(answer: DayCount) -> MkbDays

@@ -7,8 +7,8 @@ use crate::numbers::pass_u8;
 use crate::numbers::pass_u16;
 use amount::Amount;
 use book::Book;
+use calendar::Date;
 use currency::Currency;
-use interest::Date;
 ghost use mathlib.Core.Path.{_≡_};
 ghost use Rattle.flat.specs.Given.{currencyFrom, amountFrom, dateFrom, bookFrom};
 

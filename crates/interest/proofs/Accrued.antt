@@ -3,7 +3,7 @@
 use mathlib.Core.Path.{_≡_, sym, _∙_, ap, ap₂}
 use mathlib.Core.Bool.{Bool}
 use mathlib.Core.List.{List}
-use Prim.Native.Nat.{ℕ, zero, suc, _*_, _≤_}
+use Prim.Native.Nat.{ℕ, _*_, _≤_}
 use native.Mathlib.Nat.{mul-le-mul}
 use native.Mathlib.Omega.{arith}
 use borrow.Author.Tests.{ltb-false}
@@ -19,13 +19,13 @@ use Rattle.rounding.proofs.Value.{by-magnitude}
 use Rattle.currency.specs.declared.Currency.{Currency}
 use Rattle.amount.specs.declared.Amount.{Amount}
 use Rattle.amount.specs.Amounts.{largest, limited}
-use Rattle.interest.specs.declared.Date.{Date}
-use Rattle.interest.specs.DayCount.{basisOf}
-use Rattle.interest.specs.DaysSaid.{daysRows, daysSaid}
+use Rattle.calendar.specs.declared.Date.{Date}
+use Rattle.calendar.specs.DayCount.{basisOf}
+use Rattle.calendar.specs.DaysSaid.{daysRows, daysSaid}
 use Rattle.interest.specs.Interest.{lastRate, interestRows, interestOf, interestMade}
-use Rattle.interest.specs.Accrual.{rateRows, Accrues, accruedTo, interestByRule}
+use Rattle.interest.specs.Accrual.{frontRows, Accrues, accruedTo, interestByRule}
 use Rattle.refusal.proofs.Joined.{front-refused, same-value, let-pass, same-refused}
-use Rattle.interest.proofs.DaysRows.{Counted, counted}
+use Rattle.calendar.proofs.DaysRows.{Counted, counted}
 
 -- what a day count that was given tells: no row of it holds, and it is the basis's
 module _ (basis : ℕ) (start end : Date) (n : ℕ) (told : gives n ≡ daysSaid basis start end) where
@@ -37,23 +37,16 @@ module _ (basis : ℕ) (start end : Date) (n : ℕ) (told : gives n ≡ daysSaid
   unfolding daysSaid
   days-are = same-value (basisOf basis .count start end) n (daysRows basis start end) (sym told)
 
-pub accrues : (scale m : ℕ) (currency : Currency) (rate basis : ℕ) (start end : Date) (n : ℕ) → checkOf (rateRows scale m currency rate) ≡ Passed
+pub accrues : (scale m : ℕ) (currency : Currency) (rate basis : ℕ) (start end : Date) (n : ℕ) → checkOf (frontRows scale m currency rate) ≡ Passed
     → gives n ≡ daysSaid basis start end → Accrues m rate n
 accrues scale m currency rate basis start end n e told =
-    let rows = clear (rateRows scale m currency rate) e in
+    let rows = clear (frontRows scale m currency rate) e in
     let days : Counted basis start end = counted basis start end (days-passed basis start end n told) in
     record {
       principal = ltb-false largest m (rows .1 .0);
       points = ltb-false lastRate rate (rows .1 .1 .1 .0);
       days = omega (arith, days .count, days-are basis start end n told);
     }
-
--- the year of every basis is 360 or 365
-pub year-at-most : (basis : ℕ) → basisOf basis .year ≤ 365
-year-at-most zero = omega arith
-year-at-most (suc zero) = omega arith
-year-at-most (suc (suc zero)) = omega arith
-year-at-most (suc (suc (suc n))) = omega arith
 
 module _ {m rate days : ℕ} (limits : Accrues m rate days) where
   pub points-fit : rate * days ≤ lastRate * 366
@@ -74,7 +67,7 @@ module _ (rule : Rule) (a : Amount) (rate basis : ℕ) (start end : Date) (m : �
   rows x = interestRows (a .scale) x (a .currency) rate basis start end
 
   abbrev front : List Row
-  front = rateRows (a .scale) m (a .currency) rate
+  front = frontRows (a .scale) m (a .currency) rate
 
   abbrev made : Said Amount
   made = interestMade rule a rate basis start end

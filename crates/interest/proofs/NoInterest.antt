@@ -11,12 +11,12 @@ use Rattle.rounding.specs.Leaf.{roundedMagnitude}
 use Rattle.rounding.proofs.Value.{zero-rounds}
 use Rattle.amount.specs.declared.Amount.{Amount}
 use Rattle.amount.specs.Amounts.{limited}
-use Rattle.interest.specs.declared.Date.{Date}
-use Rattle.interest.specs.DayCount.{basisOf}
+use Rattle.calendar.specs.declared.Date.{Date}
+use Rattle.calendar.specs.DayCount.{basisOf}
 use Rattle.interest.specs.Interest.{interestOf, interestMade}
 use Rattle.interest.specs.Accrual.{accruedTo}
 use Rattle.interest.proofs.Accrued.{by-parts}
-use Rattle.interest.proofs.Bases.{equal-dates}
+use Rattle.calendar.proofs.Bases.{equal-dates}
 
 no-product : (rule : Rule) (n : ℤ) (rate basis : ℕ) (start end : Date)
     → magnitudeOf n * (rate * basisOf basis .count start end) ≡ 0 → interestOf rule n rate basis start end ≡ pos 0

@@ -9,8 +9,8 @@ use Rattle.whole.specs.Whole.{negative, magnitudeOf, signedOf}
 use Rattle.whole.proofs.Laws.{negative-signed, signed-zero}
 use Rattle.rounding.specs.declared.Rule.{Rule}
 use Rattle.rounding.specs.Leaf.{roundedMagnitude}
-use Rattle.interest.specs.declared.Date.{Date}
-use Rattle.interest.specs.DayCount.{basisOf}
+use Rattle.calendar.specs.declared.Date.{Date}
+use Rattle.calendar.specs.DayCount.{basisOf}
 use Rattle.interest.specs.Interest.{interestOf}
 use Rattle.interest.specs.Accrual.{accruedTo}
 use Rattle.interest.proofs.Accrued.{by-parts}

@@ -1,10 +1,9 @@
 -- Document 01, "Interest over days". Cited by `interest`. Assumes nothing.
 use mathlib.Core.List.{List, _∷_, _++_}
 use Prim.Native.Nat.{ℕ, _*_}
-use lib.Dec.{ltb}
 use lib.IntN.{ℤ, pos, _*ℤ_}
-use Rattle.refusal.specs.Rows.{Said, Row, row, firstRow}
-use Rattle.refusal.specs.declared.Refusal.the-variants.{Mode, Rate}
+use Rattle.refusal.specs.Rows.{Said, Row, row, firstRow, rateRows}
+use Rattle.refusal.specs.declared.Refusal.the-variants.{Mode}
 use Rattle.whole.specs.Whole.{magnitudeOf}
 use Rattle.rounding.specs.declared.Rule.{Rule}
 use Rattle.rounding.specs.Modes.{badMode, ruleOf}
@@ -12,9 +11,9 @@ use Rattle.rounding.specs.Leaf.{rounded}
 use Rattle.currency.specs.declared.Currency.{Currency}
 use Rattle.amount.specs.declared.Amount.{Amount}
 use Rattle.amount.specs.Amounts.{amountRows, limited}
-use Rattle.interest.specs.declared.Date.{Date}
-use Rattle.interest.specs.DayCount.{basisOf}
-use Rattle.interest.specs.DaysSaid.{daysRows}
+use Rattle.calendar.specs.declared.Date.{Date}
+use Rattle.calendar.specs.DayCount.{basisOf}
+use Rattle.calendar.specs.DaysSaid.{daysRows}
 
 -- "Yearly rate: 0 to 10,000 basis points"
 abbrev pub lastRate : ℕ
@@ -23,7 +22,7 @@ lastRate = 10000
 -- the rows behind row 1 and before row 13: an amount's, row 6 at the rate, and those of the day count
 unfoldable pub interestRows : (scale m : ℕ) → Currency → (rate basis : ℕ) → (start end : Date) → List Row
 interestRows scale m currency rate basis start end =
-    amountRows scale m currency ++ (row Rate (ltb lastRate rate) ∷ daysRows basis start end)
+    amountRows scale m currency ++ rateRows lastRate rate ++ daysRows basis start end
 
 -- "Interest = principal x rate x days / (10,000 x year), rounded once by the given mode at the principal's scale."
 unfoldable pub interestOf : Rule → ℤ → (rate basis : ℕ) → (start end : Date) → ℤ

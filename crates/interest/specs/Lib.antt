@@ -1,6 +1,2 @@
-pub mod Calendar
-pub mod CalendarOrder
-pub mod DayCount
-pub mod DaysSaid
 pub mod Interest
 pub mod Accrual

@@ -1,15 +1,14 @@
 // Simple interest over days: principal x rate x days / (10,000 x year), rounded once.
-use crate::Date;
-use crate::DayCount;
-use crate::days::day_count;
-use crate::days::year_of;
 use amount::Amount;
 use amount::Answer;
 use amount::check_one;
 use amount::within;
+use calendar::Date;
+use calendar::DayCount;
+use calendar::day_count;
 use currency::Currency;
 use refusal::Checked;
-use refusal::Refusal;
+use refusal::check_rate;
 use rounding::Choice;
 use rounding::Rule;
 use rounding::round;
@@ -20,23 +19,30 @@ use whole::signed;
 ghost use mathlib.Core.Path.{_≡_};
 ghost use Rattle.refusal.specs.Rows.{checkOf};
 ghost use Rattle.amount.specs.Amounts.{meansAmount};
+ghost use Rattle.calendar.specs.DayCount.{basisOf};
 ghost use Rattle.interest.specs.Interest.{interestSaid};
-ghost use Rattle.interest.specs.Accrual.{rateRows, Accrues, accruedTo, interestByRule};
+ghost use Rattle.interest.specs.Accrual.{frontRows, Accrues, accruedTo, interestByRule};
 
 // A whole in basis points, which is also the largest rate.
-const POINTS: u64 = 10_000;
+const POINTS: u32 = 10_000;
+
+// The year of the basis.
+fn year_of(basis: u8) -> u32
+    ensures { λ r. ⌜ r ≡ basisOf basis .year ⌝ }
+{
+    match basis {
+        1 => 365,
+        _ => 360,
+    }
+}
 
 // Rows 2, 3 and 4 at the principal, and row 6 at the rate.
 fn check(scale: u8, m: u64, currency: Currency, rate: u32) -> Checked
-    ensures { λ r. ⌜ r ≡ checkOf (rateRows scale m currency rate) ⌝ }
+    ensures { λ r. ⌜ r ≡ checkOf (frontRows scale m currency rate) ⌝ }
 {
     match check_one(scale, m, currency) {
         Checked::Refused(refusal) => Checked::Refused(refusal),
-        Checked::Passed => if POINTS < rate as u64 {
-            Checked::Refused(Refusal::Rate)
-        } else {
-            Checked::Passed
-        },
+        Checked::Passed => check_rate(rate, POINTS),
     }
 }
 
@@ -46,7 +52,7 @@ fn accrued(rule: Rule, negative: bool, m: u64, rate: u32, basis: u8, days: u32) 
     ensures { λ r. ⌜ r ≡ accruedTo rule negative m rate basis days ⌝ }
 {
     let product = m * (rate as u64 * days as u64);
-    let rounded = round(rule, negative, product, POINTS * year_of(basis));
+    let rounded = round(rule, negative, product, (POINTS * year_of(basis)) as u64);
     signed(negative, rounded)
 }
 

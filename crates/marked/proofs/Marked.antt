@@ -7,9 +7,9 @@ use Rattle.currency.specs.Table.{lineOf}
 use Rattle.currency.specs.Digits.{notOwnDigits}
 use Rattle.euro.specs.Steps.{toEuro, fromEuro}
 use Rattle.euro.specs.Conversion.{convertRows, exchanged, converted, convertSaid}
-use Rattle.interest.specs.Calendar.{leap, monthLength, exists, daysOfMonths, daysOfYears, dayNumber}
-use Rattle.interest.specs.DayCount.{actual, thirty}
-use Rattle.interest.specs.DaysSaid.{daysRows, daysSaid}
+use Rattle.calendar.specs.Calendar.{leap, monthLength, exists, daysOfMonths, daysOfYears, dayNumber}
+use Rattle.calendar.specs.DayCount.{actual, thirty}
+use Rattle.calendar.specs.DaysSaid.{daysRows, daysSaid}
 use Rattle.interest.specs.Interest.{interestRows, interestOf, interestSaid}
 use Rattle.tax.specs.Tax.{taxRows, fromGross, splitSaid}
 use Rattle.whole.specs.Sums.{sumOf}

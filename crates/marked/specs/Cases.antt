@@ -11,8 +11,8 @@ use Rattle.currency.specs.Names.{EUR, DEM, FRF, IEP}
 use Rattle.amount.specs.declared.Amount.{Amount}
 use Rattle.euro.specs.Conversion.{convertSaid}
 use Rattle.euro.specs.Steps.{toEuro, stepDecimals}
-use Rattle.interest.specs.declared.Date.{Date}
-use Rattle.interest.specs.DaysSaid.{daysSaid}
+use Rattle.calendar.specs.declared.Date.{Date}
+use Rattle.calendar.specs.DaysSaid.{daysSaid}
 use Rattle.interest.specs.Interest.{interestSaid}
 use Rattle.tax.specs.declared.Split.{Split}
 use Rattle.tax.specs.Tax.{fromGrossSaid}

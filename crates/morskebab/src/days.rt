@@ -1,4 +1,6 @@
 // Dates, day counts and interest.
+use calendar::date_exists;
+use calendar::day_count;
 use flat::MkbAmount;
 use flat::MkbAmountAnswer;
 use flat::MkbDate;
@@ -9,12 +11,10 @@ use flat::given_amount;
 use flat::given_date;
 use flat::pass_u8;
 use flat::pass_u32;
-use interest::date_exists;
-use interest::day_count;
 use interest::interest;
 ghost use mathlib.Core.Path.{_≡_};
-ghost use Rattle.interest.specs.Calendar.{exists};
-ghost use Rattle.interest.specs.DaysSaid.{daysSaid};
+ghost use Rattle.calendar.specs.Calendar.{exists};
+ghost use Rattle.calendar.specs.DaysSaid.{daysSaid};
 ghost use Rattle.interest.specs.Interest.{interestSaid};
 ghost use Rattle.flat.specs.Given.{passed8, passed32, amountFrom, dateFrom};
 ghost use Rattle.flat.specs.Answers.{amountAnswerOf, daysOf};

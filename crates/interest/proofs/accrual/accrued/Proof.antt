@@ -8,9 +8,10 @@ use Rattle.whole.specs.Whole.{heldSigned}
 use Rattle.whole.proofs.Laws.{read-back}
 use Rattle.rounding.specs.Leaf.{roundedMagnitude}
 use Rattle.rounding.proofs.Value.{held-rounded}
-use Rattle.interest.specs.DayCount.{basisOf}
+use Rattle.calendar.specs.DayCount.{basisOf}
 use Rattle.interest.specs.Accrual.{accruedTo}
-use Rattle.interest.proofs.Accrued.{year-at-most, points-fit, product-fits}
+use Rattle.calendar.proofs.Bases.{year-at-most}
+use Rattle.interest.proofs.Accrued.{points-fit, product-fits}
 use Rattle.interest.proofs.accrual.accrued.Statement.{statement}
 use Rattle.interest.proofs.accrual.accrued.Tie as tie
 
@@ -25,6 +26,9 @@ year-of-requires c κs = search needs
 
 mul-round : tie.Need-mul-round
 mul-round c = omega (arith, c .year-of .ensures, year-at-most (c .before .args .basis))
+
+cast-round : tie.Need-cast-round
+cast-round c = omega (arith, c .year-of .ensures, year-at-most (c .before .args .basis))
 
 round-requires : tie.Need-round-requires
 round-requires c κs = search needs
@@ -54,6 +58,7 @@ accrued-spec =
     mul-product-2
     year-of-requires
     mul-round
+    cast-round
     round-requires
     signed-requires
     returns)

@@ -7,7 +7,7 @@ use mir.Val.{SFits, toZ, ofZ}
 use mir.ValLaws.{toZ-ofZ}
 use Rattle.whole.specs.Whole.{negative, magnitudeOf}
 use Rattle.whole.proofs.Laws.{read-back}
-use Rattle.interest.specs.DaysSaid.{meansDays}
+use Rattle.calendar.specs.DaysSaid.{meansDays}
 use Rattle.interest.proofs.Accrued.{accrues, said-refused, said-no-days, said-made}
 use Rattle.interest.proofs.accrual.by_rule.Statement.{statement}
 use Rattle.interest.proofs.accrual.by_rule.Tie as tie

@@ -1,18 +1,10 @@
--- The amount's rows stand in front; behind them the one test is row 6's. Assumes nothing.
-use mathlib.Core.Path.{_≡_, sym, _∙_}
-use mathlib.Core.List.{[], _∷_}
-use Prim.Native.Nat.{ℕ}
+-- The amount's rows stand in front, and behind them row 6 at the rate. Assumes nothing.
+use mathlib.Core.Path.{sym, _∙_}
 use borrow.Author.Needs.{needs}
-use borrow.Author.Tests.{lt-ltb, le-ltb}
-use lib.Dec.{ltb}
-use Rattle.refusal.specs.declared.Checked.the-variants.{Passed}
-use Rattle.refusal.specs.declared.Refusal.the-variants.{Rate}
-use Rattle.refusal.specs.Rows.{row, checkOf}
+use Rattle.refusal.specs.Rows.{rateRows}
 use Rattle.refusal.proofs.Joined.{front-refused, front-passed}
-use Rattle.currency.specs.declared.Currency.{Currency}
 use Rattle.amount.specs.Amounts.{amountRows}
 use Rattle.interest.specs.Interest.{lastRate}
-use Rattle.interest.specs.Accrual.{rateRows}
 use Rattle.interest.proofs.accrual.check.Statement.{statement}
 use Rattle.interest.proofs.accrual.check.Tie as tie
 
@@ -25,30 +17,26 @@ enum-known-refusal c = search needs
 enum-told : tie.Need-enum-told
 enum-told c = search needs
 
-at-rate : (scale m : ℕ) (currency : Currency) (rate : ℕ) → checkOf (amountRows scale m currency) ≡ Passed
-    → checkOf (rateRows scale m currency rate) ≡ checkOf (row Rate (ltb lastRate rate) ∷ [])
-at-rate scale m currency rate = front-passed (amountRows scale m currency) (row Rate (ltb lastRate rate) ∷ [])
+check-rate-requires : tie.Need-check-rate-requires
+check-rate-requires c κs = search needs
 
 returns : tie.Need-returns
 returns c =
     let a = c .before .before .before .before .args in
     sym
-    (front-refused (amountRows (a .scale) (a .m) (a .currency)) (row Rate (ltb lastRate (a .rate)) ∷ []) (c .before .refusal .given .0 .0)
+    (front-refused (amountRows (a .scale) (a .m) (a .currency)) (rateRows lastRate (a .rate)) (c .before .refusal .given .0 .0)
     (sym (c .before .before .before .check-one .ensures) ∙ c .before .refusal .given .1))
 
 returns-2 : tie.Need-returns-2
 returns-2 c =
-    let a = c .before .before .before .before .args in
-    let passed = sym (c .before .before .before .check-one .ensures) ∙ c .before .enum-told .given .1 in
-    sym (at-rate (a .scale) (a .m) (a .currency) (a .rate) passed ∙ simp (lt-ltb _ _ (c .if1 .taken)))
-
-returns-3 : tie.Need-returns-3
-returns-3 c =
-    let a = c .before .before .before .before .args in
-    let passed = sym (c .before .before .before .check-one .ensures) ∙ c .before .enum-told .given .1 in
-    sym (at-rate (a .scale) (a .m) (a .currency) (a .rate) passed ∙ simp (le-ltb _ _ (c .if1 .left)))
+    let s = c .before .before .before in
+    let a = s .before .args in
+    c .check-rate .ensures
+    ∙ sym
+    (front-passed (amountRows (a .scale) (a .m) (a .currency)) (rateRows lastRate (a .rate))
+    (sym (s .check-one .ensures) ∙ c .before .enum-told .given .1))
 
 pub check-spec : {M : Type 1} → statement M
 check-spec =
     tie.close
-    (tie.spec check-one-requires enum-known-refusal enum-told returns returns-2 returns-3)
+    (tie.spec check-one-requires enum-known-refusal enum-told check-rate-requires returns returns-2)

@@ -1,0 +1,13 @@
+pub mod Numbers
+pub mod Existing
+pub mod Months
+pub mod Years
+pub mod Order
+pub mod NextDay
+pub mod ActualDays
+pub mod Thirty
+pub mod Bases
+pub mod DaysRows
+pub mod Unique
+pub mod ExactlyWhen
+pub mod Lines

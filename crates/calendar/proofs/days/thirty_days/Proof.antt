@@ -1,0 +1,79 @@
+-- The two places differ as in the definition, and the first is not past the second. Assumes nothing.
+use native.Mathlib.Omega.{arith}
+use borrow.Author.Needs.{needs}
+use Rattle.calendar.specs.DayCount.{thirty}
+use Rattle.calendar.proofs.Thirty.{place-rises}
+use Rattle.calendar.proofs.days.thirty_days.Statement.{statement}
+use Rattle.calendar.proofs.days.thirty_days.Tie as tie
+
+cast-from : tie.Need-cast-from
+cast-from c = search needs
+
+mul-from : tie.Need-mul-from
+mul-from c = search needs
+
+cast-from-2 : tie.Need-cast-from-2
+cast-from-2 c = search needs
+
+mul-from-2 : tie.Need-mul-from-2
+mul-from-2 c = search needs
+
+add-from : tie.Need-add-from
+add-from c = search needs
+
+least-requires : tie.Need-least-requires
+least-requires c κs = search needs
+
+add-from-2 : tie.Need-add-from-2
+add-from-2 c = search needs
+
+cast-to : tie.Need-cast-to
+cast-to c = search needs
+
+mul-to : tie.Need-mul-to
+mul-to c = search needs
+
+cast-to-2 : tie.Need-cast-to-2
+cast-to-2 c = search needs
+
+mul-to-2 : tie.Need-mul-to-2
+mul-to-2 c = search needs
+
+add-to : tie.Need-add-to
+add-to c = search needs
+
+least-requires-2 : tie.Need-least-requires-2
+least-requires-2 c κs = search needs
+
+add-to-2 : tie.Need-add-to-2
+add-to-2 c = search needs
+
+sub-result : tie.Need-sub-result
+sub-result c =
+    let s = c .before .before .before .before .before .before in
+    omega (arith, place-rises (s .args .start) (s .args .end) (s .pre), c .before .before .before .least .ensures, c .least2 .ensures)
+
+returns : tie.Need-returns
+unfolding thirty
+returns c = rw (c .least2 .ensures, c .before .before .before .least .ensures)
+
+pub thirty-days-spec : {M : Type 1} → statement M
+thirty-days-spec =
+    tie.close
+    (tie.spec
+    cast-from
+    mul-from
+    cast-from-2
+    mul-from-2
+    add-from
+    least-requires
+    add-from-2
+    cast-to
+    mul-to
+    cast-to-2
+    mul-to-2
+    add-to
+    least-requires-2
+    add-to-2
+    sub-result
+    returns)

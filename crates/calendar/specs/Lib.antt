@@ -1,0 +1,5 @@
+pub mod Calendar
+pub mod CalendarOrder
+pub mod DayCount
+pub mod DaysSaid
+pub mod Numbered
