@@ -62,7 +62,7 @@ static void draw_loans(void)
         mkb_date end = {(uint16_t)(later > 12 ? year + 1 : year), (uint8_t)(later > 12 ? later - 12 : later), (uint8_t)(start.day + below(3))};
         if (!mkb_date_exists(end))
             end.day = start.day;
-        loans[i] = (loan){.principal = {0, 2, signed_below(PLAIN_L)}, .rate = (uint32_t)below(10001), .basis = (uint8_t)below(3),
+        loans[i] = (loan){.principal = {0, 2, signed_below(PLAIN_L)}, .rate = (uint32_t)below(10001), .basis = (uint8_t)below(4),
                           .mode = (uint8_t)below(7), .start = start, .end = end};
     }
 }

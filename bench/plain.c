@@ -88,7 +88,7 @@ int64_t plain_interest(int64_t principal, uint32_t rate, uint8_t basis, plain_da
 {
     int negative = principal < 0;
     uint64_t m = negative ? (uint64_t)(-(principal + 1)) + 1 : (uint64_t)principal;
-    *refusal = mode > 6 ? 1 : m > PLAIN_L ? 3 : rate > 10000 || basis > 2 ? 6 : !exists(start) || !exists(end) ? 7 : 0;
+    *refusal = mode > 6 ? 1 : m > PLAIN_L ? 3 : rate > 10000 || basis > 3 ? 6 : !exists(start) || !exists(end) ? 7 : 0;
     if (*refusal)
         return 0;
     uint32_t a = number_of(start), b = number_of(end), days;
@@ -96,10 +96,11 @@ int64_t plain_interest(int64_t principal, uint32_t rate, uint8_t basis, plain_da
         *refusal = 8;
         return 0;
     }
-    if (basis == 2)
-        days = (360u * end.year + 30u * end.month + (end.day > 30 ? 30 : end.day)) -
-               (360u * start.year + 30u * start.month + (start.day > 30 ? 30 : start.day));
-    else
+    if (basis >= 2) {
+        uint32_t first = start.day > 30 ? 30 : start.day;
+        uint32_t second = end.day > 30 && (basis == 3 || first == 30) ? 30 : end.day;
+        days = (360u * end.year + 30u * end.month + second) - (360u * start.year + 30u * start.month + first);
+    } else
         days = b - a;
     if (days > 366) {
         *refusal = 8;

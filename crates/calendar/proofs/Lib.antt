@@ -6,8 +6,10 @@ pub mod Order
 pub mod NextDay
 pub mod ActualDays
 pub mod Thirty
+pub mod TwoRules
 pub mod Bases
 pub mod DaysRows
 pub mod Unique
 pub mod ExactlyWhen
 pub mod Lines
+pub mod Isda

@@ -1,7 +1,7 @@
 -- The months of a year: their lengths, and the days of the first so many of them, which grow with the months and make 365 days or, in
 -- a leap year, 366. Assumes nothing.
 use mathlib.Core.Path.{_≡_, refl, sym, ap₂}
-use mathlib.Core.Bool.{Bool, true, false, cond, _||_}
+use mathlib.Core.Bool.{Bool, true, false, cond, _&&_, _||_}
 use mathlib.Core.Logic.{_⊎_, inl, inr}
 use Prim.Native.Nat.{ℕ, zero, suc, _+_, _-_, _≤_}
 use native.Mathlib.Decide.{ℕ-discrete}
@@ -10,7 +10,7 @@ use native.Mathlib.Omega.{arith}
 use lib.Dec.{leb, eqb}
 use borrow.Author.Tests.{ne-eqb, eqb-true, leb-true}
 use Rattle.calendar.specs.Calendar.{leap, monthLength, daysOfMonths}
-use Rattle.calendar.proofs.Numbers.{each-at, grows}
+use Rattle.calendar.proofs.Numbers.{both, each-at, grows}
 
 -- the four months of 30 days
 abbrev ThirtyDays : ℕ → Type 0
@@ -40,20 +40,28 @@ module _ (year m : ℕ) (first : 1 ≤ m) (last : m ≤ 12) where
       )
       at (each-at (λ k. eqb k 0 || eqb k 2 || eqb k 4 || eqb k 6 || eqb k 9 || eqb k 11 || eqb (monthLength year k) 31) 13 refl m (omega arith))))
 
-  pub days-28 : 28 ≤ monthLength year m
+  month-within : (28 ≤ monthLength year m) × (monthLength year m ≤ 31)
   unfolding monthLength
-  days-28 = at (ℕ-discrete m 2)
+  month-within = at (ℕ-discrete m 2)
     where
-      february : (b : Bool) → 28 ≤ cond b 29 28
+      february : (b : Bool) → (28 ≤ cond b 29 28) × (cond b 29 28 ≤ 31)
       february true = omega arith
       february false = omega arith
 
-      at : Dec (m ≡ 2) → 28 ≤ monthLength year m
+      at : Dec (m ≡ 2) → (28 ≤ monthLength year m) × (monthLength year m ≤ 31)
       at (yes e) = rw e (february (leap year))
       at (no f) =
-          leb-true 28 (monthLength year m)
+          let tests =
+          both _ _
           (simp (ne-eqb m 0 (omega arith), ne-eqb m 2 f)
-          at (each-at (λ k. eqb k 0 || eqb k 2 || leb 28 (monthLength year k)) 13 refl m (omega arith)))
+          at (each-at (λ k. eqb k 0 || eqb k 2 || (leb 28 (monthLength year k) && leb (monthLength year k) 31)) 13 refl m (omega arith))) in
+          (leb-true 28 (monthLength year m) (tests .0), leb-true (monthLength year m) 31 (tests .1))
+
+  pub days-28 : 28 ≤ monthLength year m
+  days-28 = month-within .0
+
+  pub days-31 : monthLength year m ≤ 31
+  days-31 = month-within .1
 
   pub some-day : 1 ≤ monthLength year m
   some-day = omega (arith, days-28)

@@ -2,4 +2,4 @@ pub mod Calendar
 pub mod CalendarOrder
 pub mod DayCount
 pub mod DaysSaid
-pub mod Numbered
+pub mod Counting

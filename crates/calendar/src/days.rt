@@ -6,24 +6,35 @@ use crate::dates::day_number;
 use refusal::Blamed;
 use refusal::Refusal;
 ghost use mathlib.Core.Path.{_≡_};
-ghost use Prim.Native.Nat.{min};
-ghost use Rattle.calendar.specs.DayCount.{thirty, basisOf};
-ghost use Rattle.calendar.specs.DaysSaid.{InOrder, meansDays, daysSaid};
-ghost use Rattle.calendar.specs.Numbered.{Numbered};
+ghost use Rattle.calendar.specs.DayCount.{clipped, american, difference, basisOf};
+ghost use Rattle.calendar.specs.DaysSaid.{meansDays, daysSaid};
+ghost use Rattle.calendar.specs.Counting.{Numbered, Read};
 
-fn least(a: u8, b: u8) -> u32
-    ensures { λ r. ⌜ r ≡ min a b ⌝ }
+// How many bases there are.
+const BASES: u8 = 4;
+
+// A day 31 becomes 30.
+fn clip(day: u8) -> u8
+    ensures { λ r. ⌜ r ≡ clipped day ⌝ }
 {
-    if a < b { a as u32 } else { b as u32 }
+    if day < 30 { day } else { 30 }
 }
 
-// The days of 30/360: a day 31 becomes 30.
-fn thirty_days(start: Date, end: Date) -> u32
-    requires { ⌜ InOrder start end ⌝ }
-    ensures { λ r. ⌜ r ≡ thirty start end ⌝ }
+// The second day by the American rule: a day 31 becomes 30 only where the first day is then 30.
+fn american_day(first: u8, second: u8) -> u8
+    ensures { λ r. ⌜ r ≡ american first second ⌝ }
 {
-    let from = 360 * start.year as u32 + 30 * start.month as u32 + least(start.day, 30);
-    let to = 360 * end.year as u32 + 30 * end.month as u32 + least(end.day, 30);
+    let clipped = clip(second);
+    if first == 30 { clipped } else { second }
+}
+
+// The days of 30/360, with the second day as its rule has it.
+fn thirty_days(start: Date, end: Date, second: u8) -> u32
+    requires { ⌜ Read start end second ⌝ }
+    ensures { λ r. ⌜ r ≡ difference start end (clipped (start .day)) second ⌝ }
+{
+    let from = 360 * start.year as u32 + 30 * start.month as u32 + clip(start.day) as u32;
+    let to = 360 * end.year as u32 + 30 * end.month as u32 + second as u32;
     to - from
 }
 
@@ -33,7 +44,8 @@ fn count_of(basis: u8, start: Date, end: Date, from: u32, to: u32) -> u32
     ensures { λ r. ⌜ r ≡ basisOf basis .count start end ⌝ }
 {
     match basis {
-        2 => thirty_days(start, end),
+        2 => thirty_days(start, end, american_day(clip(start.day), end.day)),
+        3 => thirty_days(start, end, clip(end.day)),
         _ => to - from,
     }
 }
@@ -42,7 +54,7 @@ fn count_of(basis: u8, start: Date, end: Date, from: u32, to: u32) -> u32
 pub fn day_count(basis: u8, start: Date, end: Date) -> DayCount
     ensures { λ r. ⌜ meansDays r ≡ daysSaid basis start end ⌝ }
 {
-    if 2 < basis {
+    if BASES <= basis {
         return DayCount::Refused(Refusal::Rate);
     }
     if !date_exists(start) {

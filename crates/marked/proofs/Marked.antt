@@ -8,7 +8,7 @@ use Rattle.currency.specs.Digits.{notOwnDigits}
 use Rattle.euro.specs.Steps.{toEuro, fromEuro}
 use Rattle.euro.specs.Conversion.{convertRows, exchanged, converted, convertSaid}
 use Rattle.calendar.specs.Calendar.{leap, monthLength, exists, daysOfMonths, daysOfYears, dayNumber}
-use Rattle.calendar.specs.DayCount.{actual, thirty}
+use Rattle.calendar.specs.DayCount.{actual, difference}
 use Rattle.calendar.specs.DaysSaid.{daysRows, daysSaid}
 use Rattle.interest.specs.Interest.{interestRows, interestOf, interestSaid}
 use Rattle.tax.specs.Tax.{taxRows, fromGross, splitSaid}
@@ -20,5 +20,5 @@ use Rattle.units.specs.Rule.{mayTake, due, bestOf, takerOf, totals}
 use Rattle.marked.specs.Cases.{takers, said, printed}
 
 pub marked : said ≡ printed
-unfolding said takers badMode ruleOf restOf isOdd roundedMagnitude rounded plainRows plainSaid lineOf notOwnDigits toEuro fromEuro convertRows exchanged converted convertSaid leap monthLength exists daysOfMonths daysOfYears dayNumber actual thirty daysRows daysSaid interestRows interestOf interestSaid taxRows fromGross splitSaid sumOf roundedDown remainders unitsLeft largest handOut sharesOf signedShares listRows sharedSaid mayTake due bestOf takerOf totals
+unfolding said takers badMode ruleOf restOf isOdd roundedMagnitude rounded plainRows plainSaid lineOf notOwnDigits toEuro fromEuro convertRows exchanged converted convertSaid leap monthLength exists daysOfMonths daysOfYears dayNumber actual difference daysRows daysSaid interestRows interestOf interestSaid taxRows fromGross splitSaid sumOf roundedDown remainders unitsLeft largest handOut sharesOf signedShares listRows sharedSaid mayTake due bestOf takerOf totals
 marked = refl

@@ -1,5 +1,6 @@
--- Document 01, "Two sides of each line": the cases marked *, thirteen, as what the definitions say and what the document prints.
--- Every answer is written as a list of whole numbers; a refusal would be the empty list. Assumes nothing.
+-- Document 01, "Two sides of each line": the cases marked *, thirteen, as what the definitions say and what the document prints; that of
+-- an interest on basis 3, by document 02's Ask 2. Every answer is written as a list of whole numbers; a refusal would be the empty list.
+-- Assumes nothing.
 use mathlib.Core.List.{List, [], _∷_, _++_, map}
 use Prim.Native.Nat.{ℕ, zero, suc}
 use lib.IntN.{ℤ, pos, negsuc}
@@ -67,7 +68,7 @@ said =
     ∷ (toEuro (lineOf DEM) stepDecimals (pos 10000) ∷ converted DEM (pos 10000) FRF)  -- 100.00 DEM to FRF, with the euro step
     ∷ converted DEM (pos 100000000) EUR  -- 1,000,000.00 DEM to EUR
     ∷ (converted EUR (pos 2) IEP ++ converted IEP (pos 2) EUR)  -- 0.02 EUR to IEP; back
-    ∷ (numbers (λ n. pos n ∷ []) (daysSaid 2 start end) ++ numbers coefficient (interestSaid (amount EUR (pos 100000)) 500 2 start end 4))  -- 1000.00 EUR at 500 points, 2023-02-28 to 2023-03-31, HALF_UP, basis 2
+    ∷ (numbers (λ n. pos n ∷ []) (daysSaid 3 start end) ++ numbers coefficient (interestSaid (amount EUR (pos 100000)) 500 3 start end 4))  -- 1000.00 EUR at 500 points, 2023-02-28 to 2023-03-31, HALF_UP, basis 3
     ∷ numbers taxAndNet (fromGrossSaid (amount EUR (pos 100)) 200000 4)  -- Gross 1.00 at 200,000, HALF_UP: tax, net
     ∷ shared (pos 100) (1 ∷ 1 ∷ 1 ∷ [])  -- 100 by 1, 1, 1
     ∷ shared (pos 100) (3 ∷ 3 ∷ 1 ∷ [])  -- 100 by 3, 3, 1

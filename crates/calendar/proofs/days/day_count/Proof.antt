@@ -5,19 +5,19 @@ use mathlib.Core.List.{[], _∷_}
 use native.Mathlib.Omega.{arith}
 use lib.Dec.{ltb}
 use borrow.Author.Needs.{needs}
-use borrow.Author.Tests.{lt-ltb, le-ltb, not-true, not-false}
+use borrow.Author.Tests.{le-leb, lt-leb, lt-ltb, le-ltb, not-true, not-false}
 use Rattle.refusal.specs.declared.Refusal.the-variants.{Days}
 use Rattle.refusal.specs.Rows.{gives, row, firstRow}
 use Rattle.calendar.specs.DayCount.{dayOf}
-use Rattle.calendar.specs.DaysSaid.{dateExists, daysRows, daysSaid}
-use Rattle.calendar.specs.Numbered.{Numbered}
+use Rattle.calendar.specs.DaysSaid.{dateExists, unknownBasis, daysRows, daysSaid}
+use Rattle.calendar.specs.Counting.{Numbered}
 use Rattle.calendar.proofs.DaysRows.{by-count}
 use Rattle.calendar.proofs.days.day_count.Statement.{statement}
 use Rattle.calendar.proofs.days.day_count.Tie as tie
 
 -- what each test that was passed has shown
-basis-known : (c : tie.Else1) → ltb 2 (c .before .args .basis) ≡ false
-basis-known c = le-ltb 2 (c .before .args .basis) (omega arith)
+basis-known : (c : tie.Else1) → unknownBasis (c .before .args .basis) ≡ false
+basis-known c = lt-leb 4 (c .before .args .basis) (omega arith)
 
 start-exists : (c : tie.Else2) → dateExists (c .before .before .before .args .start) ≡ true
 start-exists c = sym (c .before .date-exists .ensures) ∙ not-false _ (c .if2 .left)
@@ -58,7 +58,7 @@ at-last c =
 
 returns : tie.Need-returns
 unfolding daysRows daysSaid
-returns c = simp (lt-ltb 2 (c .before .args .basis) (omega arith))
+returns c = simp (le-leb 4 (c .before .args .basis) (omega arith))
 
 date-exists-requires : tie.Need-date-exists-requires
 date-exists-requires c κs = search needs

@@ -1,7 +1,7 @@
 -- The two places differ as in the definition, and the first is not past the second. Assumes nothing.
 use native.Mathlib.Omega.{arith}
 use borrow.Author.Needs.{needs}
-use Rattle.calendar.specs.DayCount.{thirty}
+use Rattle.calendar.specs.DayCount.{difference}
 use Rattle.calendar.proofs.Thirty.{place-rises}
 use Rattle.calendar.proofs.days.thirty_days.Statement.{statement}
 use Rattle.calendar.proofs.days.thirty_days.Tie as tie
@@ -21,8 +21,11 @@ mul-from-2 c = search needs
 add-from : tie.Need-add-from
 add-from c = search needs
 
-least-requires : tie.Need-least-requires
-least-requires c κs = search needs
+clip-requires : tie.Need-clip-requires
+clip-requires c κs = search needs
+
+cast-from-3 : tie.Need-cast-from-3
+cast-from-3 c = search needs
 
 add-from-2 : tie.Need-add-from-2
 add-from-2 c = search needs
@@ -42,20 +45,17 @@ mul-to-2 c = search needs
 add-to : tie.Need-add-to
 add-to c = search needs
 
-least-requires-2 : tie.Need-least-requires-2
-least-requires-2 c κs = search needs
-
 add-to-2 : tie.Need-add-to-2
 add-to-2 c = search needs
 
 sub-result : tie.Need-sub-result
 sub-result c =
-    let s = c .before .before .before .before .before .before in
-    omega (arith, place-rises (s .args .start) (s .args .end) (s .pre), c .before .before .before .least .ensures, c .least2 .ensures)
+    let s = c .before .before .before .before .before in
+    omega (arith, place-rises (s .args .start) (s .args .end) (s .pre .dates), s .pre .least, c .before .before .clip .ensures)
 
 returns : tie.Need-returns
-unfolding thirty
-returns c = rw (c .least2 .ensures, c .before .before .before .least .ensures)
+unfolding difference
+returns c = rw (c .before .before .clip .ensures)
 
 pub thirty-days-spec : {M : Type 1} → statement M
 thirty-days-spec =
@@ -66,14 +66,14 @@ thirty-days-spec =
     cast-from-2
     mul-from-2
     add-from
-    least-requires
+    clip-requires
+    cast-from-3
     add-from-2
     cast-to
     mul-to
     cast-to-2
     mul-to-2
     add-to
-    least-requires-2
     add-to-2
     sub-result
     returns)
