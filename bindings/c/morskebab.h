@@ -32,7 +32,7 @@ enum mkb_refusal {
     MKB_MAGNITUDE = 3, /* a given coefficient or net total is over L, or a plain numerator is over 10^18 */
     MKB_UNKNOWN = 4,   /* a currency number is over 20 */
     MKB_DIFFER = 5,    /* two currencies that must agree differ */
-    MKB_RATE = 6,      /* a plain divisor isn't 1 to 10^18, a rate is outside its limits, or the basis isn't 0 to 2 */
+    MKB_RATE = 6,      /* a plain divisor isn't 1 to 10^18, a rate is outside its limits, or the basis isn't 0 to 3 */
     MKB_DATE = 7,      /* a date doesn't exist or its year isn't 1900 to 2199 */
     MKB_DAYS = 8,      /* the end is before the start, or the day count is over 366 */
     MKB_WEIGHTS = 9,   /* weights break their rule */
@@ -45,8 +45,9 @@ enum mkb_refusal {
 /* away from zero, toward zero, toward the greater, toward the lesser; to the nearest, a half away from zero, toward zero, to the even */
 enum mkb_mode { MKB_UP, MKB_DOWN, MKB_CEILING, MKB_FLOOR, MKB_HALF_UP, MKB_HALF_DOWN, MKB_HALF_EVEN };
 
-/* actual days / 360, actual days / 365, 30/360 */
-enum mkb_basis { MKB_ACTUAL_360, MKB_ACTUAL_365, MKB_30_360 };
+/* actual days / 360, actual days / 365; 30/360 by the American rule (the bond basis of ISDA 2006, which loan contracts mean) and by the European
+   (30E/360) */
+enum mkb_basis { MKB_ACTUAL_360, MKB_ACTUAL_365, MKB_THIRTY_360_AMERICAN, MKB_THIRTY_360_EUROPEAN };
 
 /* the kinds of a run's movements; any number but 0 is a refund */
 enum mkb_kind { MKB_POSTING, MKB_REFUNDING };

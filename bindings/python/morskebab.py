@@ -21,6 +21,7 @@ from collections.abc import Sequence
 from ctypes import c_int32, c_int64, c_uint8, c_uint32, c_uint64
 from dataclasses import dataclass
 from decimal import Decimal
+from enum import IntEnum
 from typing import Any, Callable, NamedTuple
 
 from morskebab_c import PARTNERS, VERSION, CAmount, CBook, CDate, load
@@ -30,7 +31,18 @@ __version__ = f"{VERSION // 10000}.{VERSION // 100 % 100}.{VERSION % 100}"
 
 (EUR, BEF, DEM, ESP, FRF, IEP, ITL, LUF, NLG, ATS, PTE, FIM, GRD, SIT, CYP, MTL, SKK, EEK, LVL, LTL, HRK) = range(21)
 UP, DOWN, CEILING, FLOOR, HALF_UP, HALF_DOWN, HALF_EVEN = range(7)
-ACTUAL_360, ACTUAL_365, THIRTY_360 = range(3)
+
+
+class Basis(IntEnum):
+    """The day count bases. Of 30/360 the American is the bond basis of ISDA 2006, which loan contracts mean, the European is 30E/360."""
+
+    ACTUAL_360 = 0
+    ACTUAL_365 = 1
+    THIRTY_360_AMERICAN = 2
+    THIRTY_360_EUROPEAN = 3
+
+
+ACTUAL_360, ACTUAL_365, THIRTY_360_AMERICAN, THIRTY_360_EUROPEAN = Basis
 
 # the largest magnitude of a coefficient, and the largest scale
 L = 99_999_999_999
@@ -82,10 +94,10 @@ class Date:
         return _library.mkb_date_exists(self._c())
 
 
-def day_count(basis: int, start: Date, end: Date) -> int:
-    """The days from the start to the end by the basis: refusals 6, 7, 8."""
+def day_count(basis: Basis, start: Date, end: Date) -> int:
+    """The days from the start to the end by the basis: refusals 7, 8."""
     start, end = is_a(Date, "start", start), is_a(Date, "end", end)
-    return _accepted(_library.mkb_day_count(whole(c_int64, "basis", basis), start._c(), end._c())).days
+    return _accepted(_library.mkb_day_count(is_a(Basis, "basis", basis), start._c(), end._c())).days
 
 
 @dataclass(frozen=True, eq=False)
@@ -186,10 +198,10 @@ class Amount:
         """In the currency `to`, by Council Regulation (EC) No 1103/97, articles 4 and 5: refusals 2, 3, 4, 13."""
         return Amount._of(_accepted(_library.mkb_convert(self._c(), whole(c_int64, "to", to))).amount)
 
-    def interest(self, rate: int, basis: int, start: Date, end: Date, mode: int) -> Amount:
+    def interest(self, rate: int, basis: Basis, start: Date, end: Date, mode: int) -> Amount:
         """This x rate x days / (10,000 x year), rounded once: refusals 1, 2, 3, 4, 6, 7, 8, 13."""
         start, end = is_a(Date, "start", start), is_a(Date, "end", end)
-        numbers = whole(c_int64, "rate", rate), whole(c_int64, "basis", basis)
+        numbers = whole(c_int64, "rate", rate), is_a(Basis, "basis", basis)
         return Amount._of(_accepted(_library.mkb_interest(self._c(), *numbers, start._c(), end._c(), whole(c_int64, "mode", mode))).amount)
 
     def tax_as_net(self, rate: int, mode: int) -> Split:

@@ -10,6 +10,7 @@ from decimal import Decimal
 import morskebab
 from morskebab import (
     DEM, EUR, FRF, IEP, ITL, CEILING, DOWN, FLOOR, HALF_DOWN, HALF_EVEN, HALF_UP, UP, L, REASONS,
+    ACTUAL_360, ACTUAL_365, THIRTY_360_AMERICAN, THIRTY_360_EUROPEAN,
     Amount, Book, Date, Moved, Ran, Refused, Split, currency_line, day_count, plain_quotient,
 )
 from morskebab_c import PARTNERS, CAmount, CBook
@@ -102,7 +103,7 @@ def past_limits():
     refused(1, lambda: plain_quotient(262, -5, 2))
     refused(6, lambda: plain_quotient(UP, 1, -1))
     refused(6, lambda: euros(1).tax_as_net(2**32 + 500, UP))
-    refused(7, lambda: day_count(0, Date(67559, 1, 1), Date(2023, 1, 1)), blamed=1)
+    refused(7, lambda: day_count(ACTUAL_360, Date(67559, 1, 1), Date(2023, 1, 1)), blamed=1)
     refused(4, lambda: Book.open(256, [1]))
 
 
@@ -125,7 +126,8 @@ def fields():
     named(TypeError, "scale", lambda: euros(1, "2"))
     named(TypeError, "mode", lambda: euros(1).rescale(1, None))
     named(TypeError, "year", lambda: Date("2023", 1, 1))
-    named(TypeError, "start", lambda: day_count(0, "2023-01-01", Date(2023, 1, 1)))
+    named(TypeError, "start", lambda: day_count(ACTUAL_360, "2023-01-01", Date(2023, 1, 1)))
+    named(TypeError, "basis", lambda: day_count(2, Date(2023, 1, 1), Date(2023, 1, 1)))
     named(TypeError, "amount", lambda: Book(EUR, (1,), 0).post(7))
     named(TypeError, "weights[1]", lambda: euros(1).share([1, 0.5]))
     for weights in ({5, 3, 2}, frozenset([1]), {5: 1}, {5: 1}.keys(), "532", b"532", 5, iter([1])):
@@ -165,15 +167,16 @@ def euro_steps():
 
 def days():
     feb, mar, none = Date(2023, 2, 28), Date(2023, 3, 31), Date(1900, 2, 29)
-    for basis, counted, paid in ((0, 31, 431), (1, 31, 425), (2, 32, 444)):
+    bases = (ACTUAL_360, 31, 431), (ACTUAL_365, 31, 425), (THIRTY_360_AMERICAN, 33, 458), (THIRTY_360_EUROPEAN, 32, 444)
+    for basis, counted, paid in bases:
         same(day_count(basis, feb, mar), counted)
         same(euros(100000).interest(500, basis, feb, mar, HALF_UP), euros(paid))
     same((Date(2000, 2, 29).exists(), none.exists()), (True, False))
-    refused(6, lambda: day_count(3, none, none))
-    refused(7, lambda: day_count(0, none, none), blamed=1)
-    refused(7, lambda: day_count(0, feb, none), blamed=2)
-    refused(7, lambda: euros(1).interest(500, 0, feb, none, HALF_UP), blamed=2)
-    refused(8, lambda: day_count(0, mar, feb))
+    refused(6, lambda: euros(1).interest(10001, ACTUAL_360, none, none, HALF_UP))
+    refused(7, lambda: day_count(ACTUAL_360, none, none), blamed=1)
+    refused(7, lambda: day_count(ACTUAL_360, feb, none), blamed=2)
+    refused(7, lambda: euros(1).interest(500, ACTUAL_360, feb, none, HALF_UP), blamed=2)
+    refused(8, lambda: day_count(ACTUAL_360, mar, feb))
 
 
 def prices():

@@ -31,11 +31,24 @@ pub mod mode {
     pub const HALF_EVEN: u8 = 6;
 }
 
-/// The day count bases.
-pub mod basis {
-    pub const ACTUAL_360: u8 = 0;
-    pub const ACTUAL_365: u8 = 1;
-    pub const THIRTY_360: u8 = 2;
+/// The day count bases, by their numbers.
+#[derive(Clone, Copy, Debug, PartialEq, Eq)]
+#[repr(u8)]
+pub enum Basis {
+    /// Actual days / 360.
+    Actual360 = 0,
+    /// Actual days / 365.
+    Actual365 = 1,
+    /// 30/360, the bond basis of ISDA 2006, which loan contracts mean: a second day 31 becomes 30 only where the first is then 30.
+    Thirty360American = 2,
+    /// 30E/360: a day 31 in either date becomes 30.
+    Thirty360European = 3,
+}
+
+impl From<Basis> for i64 {
+    fn from(basis: Basis) -> i64 {
+        basis as i64
+    }
 }
 
 /// The version of the library that is linked: 10,000 x major + 100 x minor + patch.
@@ -149,7 +162,7 @@ impl Amount {
     }
 
     /// This x rate x days / (10,000 x year), rounded once: refusals 1, 2, 3, 4, 6, 7, 8, 13.
-    pub fn interest(self, rate: u32, basis: u8, start: Date, end: Date, mode: u8) -> Result<Amount, Refusal> {
+    pub fn interest(self, rate: u32, basis: Basis, start: Date, end: Date, mode: u8) -> Result<Amount, Refusal> {
         unsafe { ffi::mkb_interest(self.into(), rate.into(), basis.into(), start.into(), end.into(), mode.into()) }.into()
     }
 
@@ -196,8 +209,8 @@ impl Date {
     }
 }
 
-/// The days from the start to the end by the basis: refusals 6, 7, 8.
-pub fn day_count(basis: u8, start: Date, end: Date) -> Result<u32, Refusal> {
+/// The days from the start to the end by the basis: refusals 7, 8.
+pub fn day_count(basis: Basis, start: Date, end: Date) -> Result<u32, Refusal> {
     // SAFETY: as above
     let r = unsafe { ffi::mkb_day_count(basis.into(), start.into(), end.into()) };
     Refusal::or(r.refusal, r.blamed, r.days)

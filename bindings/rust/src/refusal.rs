@@ -21,7 +21,7 @@ pub enum Refusal {
     Unknown,
     /// 5: two currencies that must agree differ
     Differ,
-    /// 6: a plain divisor isn't 1 to 10^18, a rate is outside its limits, or the basis isn't 0 to 2
+    /// 6: a plain divisor isn't 1 to 10^18, a rate is outside its limits, or the basis isn't 0 to 3
     Rate,
     /// 7: a date doesn't exist or its year isn't 1900 to 2199
     Date(Blamed),

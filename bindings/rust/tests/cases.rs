@@ -1,5 +1,5 @@
 //! Document 01's cases ("Two sides of each line"), its table of currencies and books broken in each field through the Rust crate.
-use morskebab::{day_count, mode, plain_quotient, version, Amount, Blamed, Book, Currency, Date, Moved, Refusal, Split};
+use morskebab::{day_count, mode, plain_quotient, version, Amount, Basis, Blamed, Book, Currency, Date, Moved, Refusal, Split};
 use std::cmp::Ordering;
 
 const EUR: Currency = Currency(0);
@@ -82,7 +82,7 @@ fn versions_and_words() {
     assert_eq!(version(), 10_000 * parts[0] + 100 * parts[1] + parts[2]);
     assert!(include_str!("../../c/morskebab.h").contains(&format!("#define MKB_VERSION UINT32_C({})\n", version())));
     assert_eq!(Refusal::Unknown.to_string(), "refusal 4: a currency number is over 20");
-    let late = day_count(0, Date::new(2023, 1, 1), Date::new(1900, 2, 29)).unwrap_err();
+    let late = day_count(Basis::Actual360, Date::new(2023, 1, 1), Date::new(1900, 2, 29)).unwrap_err();
     assert_eq!(late.to_string(), "refusal 7: a date doesn't exist or its year isn't 1900 to 2199 (the second date)");
 }
 
@@ -100,15 +100,16 @@ fn euro_steps() {
 #[test]
 fn interest_over_days() {
     let (feb, mar, none) = (Date::new(2023, 2, 28), Date::new(2023, 3, 31), Date::new(1900, 2, 29));
-    for (basis, days, cents) in [(0, 31, 431), (1, 31, 425), (2, 32, 444)] {
+    let bases = [(Basis::Actual360, 31, 431), (Basis::Actual365, 31, 425), (Basis::Thirty360American, 33, 458), (Basis::Thirty360European, 32, 444)];
+    for (basis, days, cents) in bases {
         assert_eq!(day_count(basis, feb, mar), Ok(days));
         assert_eq!(euros(100_000).interest(500, basis, feb, mar, mode::HALF_UP), Ok(euros(cents)));
     }
     assert!(Date::new(2000, 2, 29).exists() && !none.exists());
-    assert_eq!(day_count(0, none, none), Err(Refusal::Date(Blamed::First)));
-    assert_eq!(euros(1).interest(500, 0, feb, none, mode::UP), Err(Refusal::Date(Blamed::Second)));
-    assert_eq!(day_count(0, mar, feb), Err(Refusal::Days));
-    assert_eq!(day_count(3, none, none), Err(Refusal::Rate));
+    assert_eq!(day_count(Basis::Actual360, none, none), Err(Refusal::Date(Blamed::First)));
+    assert_eq!(euros(1).interest(500, Basis::Actual360, feb, none, mode::UP), Err(Refusal::Date(Blamed::Second)));
+    assert_eq!(day_count(Basis::Actual360, mar, feb), Err(Refusal::Days));
+    assert_eq!(euros(1).interest(10_001, Basis::Actual360, none, none, mode::UP), Err(Refusal::Rate));
 }
 
 #[test]
