@@ -6,7 +6,7 @@ exchange exchanges[AMOUNTS];
 loan loans[AMOUNTS];
 list lists[LISTS];
 mkb_amount postings[POSTINGS];
-uint8_t kinds[CALLS];
+bool refunds[CALLS];
 int64_t coefficients[CALLS];
 
 static uint64_t state = SEED;
@@ -80,7 +80,7 @@ void draw_inputs(void)
     for (int i = 0; i < POSTINGS; i++)
         postings[i] = (mkb_amount){.currency = 0, .scale = 2, .coefficient = (int64_t)below(PLAIN_L / POSTINGS)};
     for (int i = 0; i < CALLS; i++) {
-        kinds[i] = below(4) == 0;
+        refunds[i] = below(4) == 0;
         coefficients[i] = (int64_t)below(PLAIN_L / CALLS);
     }
 }

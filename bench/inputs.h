@@ -40,7 +40,7 @@ extern loan loans[AMOUNTS];
 extern list lists[LISTS];
 extern mkb_amount postings[POSTINGS];
 /* a run's movements: one in four is a refund */
-extern uint8_t kinds[CALLS];
+extern bool refunds[CALLS];
 extern int64_t coefficients[CALLS];
 
 void draw_inputs(void);

@@ -303,7 +303,7 @@ static void totals_by_cycle(const uint32_t weights[16], uint32_t W, const uint16
         totals[i] = cycles * weights[i] + left * weights[i] / W + (row >> i & 1);
 }
 
-void plain_run(plain_book *book, const uint8_t *kinds, const int64_t *coefficients, size_t calls, uint64_t *payouts, uint8_t *numbers)
+void plain_run(plain_book *book, const bool *refunds, const int64_t *coefficients, size_t calls, uint64_t *payouts, uint8_t *numbers)
 {
     uint16_t table[10000];
     uint64_t held[16], next[16];
@@ -314,7 +314,7 @@ void plain_run(plain_book *book, const uint8_t *kinds, const int64_t *coefficien
     totals_by_cycle(book->weights, W, table, (uint64_t)book->net, held);
     for (size_t j = 0; j < calls; j++, payouts += 16) {
         int64_t c = coefficients[j];
-        int refund = kinds[j] != 0;
+        int refund = refunds[j];
         numbers[j] = c > (int64_t)PLAIN_L || c < -(int64_t)PLAIN_L ? 3
                      : c < 0                                       ? 10
                      : refund                                      ? (c > book->net ? 12 : 0)

@@ -1,6 +1,7 @@
 /* Plain C versions of what the library computes, for the ratios of bench/: the same rules, no proof, no checks beyond the rules' own. */
 #ifndef PLAIN_H
 #define PLAIN_H
+#include <stdbool.h>
 #include <stddef.h>
 #include <stdint.h>
 
@@ -28,5 +29,5 @@ void plain_totals_by_share(const uint32_t weights[16], uint64_t n, uint64_t tota
 int plain_post(plain_book *book, int64_t amount, uint64_t payouts[16], int by_unit);
 
 /* a run of movements by a table of one cycle, a mask of who is ahead for each net total below W */
-void plain_run(plain_book *book, const uint8_t *kinds, const int64_t *coefficients, size_t calls, uint64_t *payouts, uint8_t *numbers);
+void plain_run(plain_book *book, const bool *refunds, const int64_t *coefficients, size_t calls, uint64_t *payouts, uint8_t *numbers);
 #endif

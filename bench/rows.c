@@ -173,12 +173,12 @@ int post_agrees(void)
     return ok;
 }
 
-static mkb_ran by_run(void) { return mkb_run(opened, kinds, calls, coefficients, calls, paid[0], 16 * calls, numbers[0], calls); }
+static mkb_ran by_run(void) { return mkb_run(opened, refunds, calls, coefficients, calls, paid[0], 16 * calls, numbers[0], calls); }
 
 static plain_book by_plain_run(void)
 {
     plain_book b = plain_opened();
-    plain_run(&b, kinds, coefficients, calls, paid[1], numbers[1]);
+    plain_run(&b, refunds, coefficients, calls, paid[1], numbers[1]);
     return b;
 }
 

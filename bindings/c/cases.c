@@ -198,7 +198,7 @@ static void refusals(void)
 /* the history in one run, with a refused call in it and one behind it; the places past the run stay */
 static void runs(void)
 {
-    static const uint8_t kinds[5] = {MKB_POSTING, MKB_POSTING, MKB_REFUNDING, MKB_REFUNDING, MKB_POSTING};
+    static const bool refunds[5] = {false, false, true, true, false};
     static const int64_t coefficients[5] = {7, 5, 3, 10, MKB_L};
     static const uint64_t paid[5][3] = {{4, 2, 1}, {2, 2, 1}, {1, 1, 1}, {0, 0, 0}, {0, 0, 0}};
     static const uint8_t said[6] = {0, 0, 0, MKB_REFUND, MKB_LIMIT, 77};
@@ -208,11 +208,11 @@ static void runs(void)
     memcpy(payouts, stood, sizeof payouts);
     memset(numbers, 77, sizeof numbers);
     mkb_book given = book(0), last = book(9);
-    mkb_ran r = mkb_run(given, kinds, 5, coefficients, 4, payouts, 5 * MKB_PARTNERS, numbers, 5);
-    tell(r.refusal == MKB_ROOM && !r.served && same_book(&r.book, &given) && !memcmp(payouts, stood, sizeof stood) && numbers[0] == 77, "unequal lists");
-    r = mkb_run(given, kinds, 5, coefficients, 5, payouts, 5 * MKB_PARTNERS - 1, numbers, 5);
+    mkb_ran r = mkb_run(given, refunds, 5, coefficients, 4, payouts, 5 * MKB_PARTNERS, numbers, 5);
+    tell(r.refusal == MKB_WEIGHTS && !r.served && same_book(&r.book, &given) && !memcmp(payouts, stood, sizeof stood) && numbers[0] == 77, "unequal lists");
+    r = mkb_run(given, refunds, 5, coefficients, 5, payouts, 5 * MKB_PARTNERS - 1, numbers, 5);
     tell(r.refusal == MKB_ROOM && !r.served && same_book(&r.book, &given) && !memcmp(payouts, stood, sizeof stood) && numbers[0] == 77, "one place short");
-    r = mkb_run(given, kinds, 5, coefficients, 5, payouts, 6 * MKB_PARTNERS, numbers, 6);
+    r = mkb_run(given, refunds, 5, coefficients, 5, payouts, 6 * MKB_PARTNERS, numbers, 6);
     tell(!r.refusal && !r.blamed && r.served == 5 && same_book(&r.book, &last) && !memcmp(numbers, said, sizeof said), "a run of five");
     for (int call = 0; call < 5; call++) {
         uint64_t places[MKB_PARTNERS] = {paid[call][0], paid[call][1], paid[call][2]};

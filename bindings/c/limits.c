@@ -99,6 +99,14 @@ static void broken(void)
         for (int k = 0; k < MKB_PARTNERS; k++)
             ok = ok && !t.totals[k];
         tell(ok, books[i].name);
+        /* a run is refused with the same number, with calls and without, and also where there is too little room */
+        for (size_t calls = 0; calls < 2; calls++)
+            for (size_t room = 0; room < 2; room++) {
+                uint64_t payouts[MKB_PARTNERS] = {77};
+                uint8_t number = 77;
+                mkb_ran r = mkb_run(b, (bool[]){false}, calls, (int64_t[]){1}, calls, payouts, room * MKB_PARTNERS, &number, room);
+                tell(r.refusal == books[i].number && !r.blamed && !r.served && same_book(&r.book, &b) && payouts[0] == 77 && number == 77, books[i].name);
+            }
     }
 }
 

@@ -1,8 +1,9 @@
 /* Morskebab from C: money arithmetic whose every function is proved to keep its promise.
  *
  * What the caller owes, since C can't say it: a pointer that goes with a count isn't null and points to that many elements, which nothing
- * else writes during the call, and two lists lent to one call don't overlap. A struct's fields may hold any values at all, and so may every
- * number. Every call returns; none keeps a pointer, allocates, or keeps anything between calls, so calls from several threads are free.
+ * else writes during the call, two lists lent to one call don't overlap, and each bool in a list is 0 or 1. A struct's fields may hold any
+ * values at all, and so may every number. Every call returns; none keeps a pointer, allocates, or keeps anything between calls, so calls from
+ * several threads are free.
  *
  * A number outside a list is taken as an int64_t, or an int32_t in a struct, so that an `int` arrives as it is; one that is negative or past
  * its limit is refused with its own number and never taken for another: mkb_convert(a, 260) is refusal 4.
@@ -48,9 +49,6 @@ enum mkb_mode { MKB_UP, MKB_DOWN, MKB_CEILING, MKB_FLOOR, MKB_HALF_UP, MKB_HALF_
 /* actual days / 360, actual days / 365; 30/360 by the American rule (the bond basis of ISDA 2006, which loan contracts mean) and by the European
    (30E/360) */
 enum mkb_basis { MKB_ACTUAL_360, MKB_ACTUAL_365, MKB_THIRTY_360_AMERICAN, MKB_THIRTY_360_EUROPEAN };
-
-/* the kinds of a run's movements; any number but 0 is a refund */
-enum mkb_kind { MKB_POSTING, MKB_REFUNDING };
 
 /* the largest magnitude of a coefficient, the places of a book, the largest sum of a book's weights */
 #define MKB_L INT64_C(99999999999)
@@ -171,11 +169,11 @@ mkb_moved mkb_post(mkb_book book, mkb_amount a);
 mkb_moved mkb_refund(mkb_book book, mkb_amount a);
 /* each partner's running total at the book's net total: refusals 3, 4, 9, 10 */
 mkb_totals mkb_running_totals(mkb_book book);
-/* the movements in turn, each as mkb_post or mkb_refund of its coefficient in the book's currency at its own digits: call j's payouts at the
- * sixteen places from 16 x j on, its refusal number (0: accepted) at place j; the last book and the calls served. Where the run itself is
- * refused: the given book, 0 calls served, and every lent place as it stood; refusal 11 where the lists' lengths differ or there is too
- * little room */
-mkb_ran mkb_run(mkb_book book, const uint8_t *kinds, size_t calls, const int64_t *coefficients, size_t count, uint64_t *payouts, size_t payouts_room,
+/* the movements in turn, each as mkb_refund where `refunds` has true, else as mkb_post, of its coefficient in the book's currency at its own digits:
+ * call j's payouts at the sixteen places from 16 x j on, its refusal number (0: accepted) at place j; the last book and the calls served.
+ * Where the run itself is refused: the given book, 0 calls served, and every lent place as it stood; refusals 3, 4, 9, 10 of the given book,
+ * 9 where the lists' lengths differ, 11 where there is too little room */
+mkb_ran mkb_run(mkb_book book, const bool *refunds, size_t calls, const int64_t *coefficients, size_t count, uint64_t *payouts, size_t payouts_room,
                 uint8_t *numbers, size_t numbers_room);
 
 #ifdef __cplusplus

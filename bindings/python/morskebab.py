@@ -18,7 +18,7 @@ whole number raises TypeError, and one that its C type can't hold OverflowError;
 from __future__ import annotations
 
 from collections.abc import Sequence
-from ctypes import c_int32, c_int64, c_uint8, c_uint32, c_uint64
+from ctypes import c_bool, c_int32, c_int64, c_uint8, c_uint32, c_uint64
 from dataclasses import dataclass
 from decimal import Decimal
 from enum import IntEnum
@@ -294,9 +294,10 @@ class Book:
         """Each partner's running total at the net total: refusals 3, 4, 9, 10."""
         return tuple(_accepted(_library.mkb_running_totals(self._c())).totals[: len(self.weights)])
 
-    def run(self, kinds: Sequence[int], coefficients: Sequence[int]) -> Ran:
-        """Posts (kind 0) or refunds (any other) each coefficient in turn, as `post` and `refund` would: refusal 11 for lists of unequal length."""
-        lent, calls = as_list(c_uint8, "kinds", kinds)
+    def run(self, refunds: Sequence[bool], coefficients: Sequence[int]) -> Ran:
+        """Refunds (True) or posts (False) each coefficient in turn, as `refund` and `post` would: refusals 3, 4, 9, 10 of the book itself, and 9
+        for lists of unequal length."""
+        lent, calls = as_list(c_bool, "refunds", refunds)
         given, count = as_list(c_int64, "coefficients", coefficients)
         payouts, numbers = (c_uint64 * (PARTNERS * calls + 1))(), (c_uint8 * (calls + 1))()
         answer = _library.mkb_run(self._c(), lent, calls, given, count, payouts, PARTNERS * calls, numbers, calls)

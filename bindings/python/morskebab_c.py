@@ -66,7 +66,7 @@ FUNCTIONS = {
     "mkb_post": (CMoved, CBook, CAmount),
     "mkb_refund": (CMoved, CBook, CAmount),
     "mkb_running_totals": (CTotals, CBook),
-    "mkb_run": (CRan, CBook, *_lent(c_uint8), *_lent(c_int64), *_lent(c_uint64), *_lent(c_uint8)),
+    "mkb_run": (CRan, CBook, *_lent(c_bool), *_lent(c_int64), *_lent(c_uint64), *_lent(c_uint8)),
 }
 
 

@@ -3,7 +3,7 @@ from __future__ import annotations
 
 import operator
 from collections.abc import Mapping
-from ctypes import Array, sizeof
+from ctypes import Array, c_bool, sizeof
 from typing import Any
 
 REASONS = {
@@ -38,7 +38,9 @@ class Refused(Exception):
 
 
 def whole(kind: Any, field: str, value: Any) -> int:
-    """The value as a whole number that the C type holds; TypeError or OverflowError with the field's name."""
+    """The value as the C type holds it, a whole number, or a bool; TypeError or OverflowError with the field's name."""
+    if kind is c_bool:
+        return is_a(bool, field, value)
     try:
         n = operator.index(value)
     except TypeError:
@@ -52,7 +54,7 @@ def whole(kind: Any, field: str, value: Any) -> int:
 def as_list(kind: Any, field: str, values: Any) -> tuple[Array, int]:
     """The values as a C list, and their number; TypeError where they have no order."""
     if isinstance(values, (Mapping, str, bytes, bytearray)) or not hasattr(values, "__getitem__"):
-        raise TypeError(f"{field} must be a list or another sequence of whole numbers, not {type(values).__name__}")
+        raise TypeError(f"{field} must be a list or another sequence, not {type(values).__name__}")
     held = [whole(kind, f"{field}[{place}]", value) for place, value in enumerate(values)]
     # one place more, so that an empty list has an address too
     return (kind * (len(held) + 1))(*held), len(held)

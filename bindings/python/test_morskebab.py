@@ -4,7 +4,7 @@ import multiprocessing
 import pathlib
 import pickle
 import re
-from ctypes import c_uint32
+from ctypes import c_bool, c_int64, c_uint8, c_uint32, c_uint64
 from decimal import Decimal
 
 import morskebab
@@ -218,10 +218,12 @@ def books():
     refused(4, lambda: Book.open(21, []))
     refused(10, lambda: Book(EUR, (5, 3, 2), -1).running_totals())
     none = (0, 0, 0)
-    ran = Book.open(EUR, [5, 3, 2]).run([0, 0, 1, 1, 0], [7, 5, 3, 10, L])
+    ran = Book.open(EUR, [5, 3, 2]).run([False, False, True, True, False], [7, 5, 3, 10, L])
     same(ran, Ran(Book(EUR, (5, 3, 2), 9), ((4, 2, 1), (2, 2, 1), (1, 1, 1), none, none), (0, 0, 0, 12, 13)))
     same(book.run([], []), Ran(book, (), ()))
-    refused(11, lambda: book.run([0, 1], [1]))
+    refused(9, lambda: book.run([False, True], [1]))
+    named(TypeError, "refunds[1] must be bool, not int", lambda: book.run([False, 2], [1, 1]))
+    named(TypeError, "refunds must be", lambda: book.run({True}, [1]))
 
 
 def broken_books():
@@ -238,10 +240,14 @@ def broken_books():
             same((r.refusal, r.blamed, bytes(r.book), any(r.payouts)), (number, 0, bytes(book), False))
         r = morskebab._library.mkb_running_totals(book)
         same((r.refusal, r.blamed, any(r.totals)), (number, 0, False))
+        payouts, numbers = (c_uint64 * PARTNERS)(77), (c_uint8 * 1)(77)
+        r = morskebab._library.mkb_run(book, (c_bool * 1)(), 1, (c_int64 * 1)(1), 1, payouts, PARTNERS, numbers, 1)
+        same((r.refusal, r.served, bytes(r.book), payouts[0], numbers[0]), (number, 0, bytes(book), 77, 77))
     refused(4, lambda: Book(21, whole, 9).post(euros(1)))
     refused(9, lambda: Book(EUR, (), 9).refund(euros(1)))
     refused(9, lambda: Book(EUR, (10000, 1), 9).running_totals())
     refused(3, lambda: Book(EUR, whole, L + 1).post(euros(1)))
+    refused(10, lambda: Book(EUR, whole, -1).run([], []))
 
 
 def negated(coefficient):

@@ -60,14 +60,14 @@ impl Book {
         Refusal::or(r.refusal, r.blamed, r.totals)
     }
 
-    /// Posts (kind 0) or refunds (any other) each coefficient in turn, as `post` and `refund` would, and answers with the last book. Call j's
-    /// payouts go to place j, zeros where it is refused, and so does its refusal number, 0 where it is accepted; places past the run stay.
-    /// Refusal 11, with nothing written, where the lists' lengths differ or there is too little room.
-    pub fn run(self, kinds: &[u8], coefficients: &[i64], payouts: &mut [[u64; 16]], numbers: &mut [u8]) -> Result<Book, Refusal> {
+    /// Refunds (true) or posts (false) each coefficient in turn, as `refund` and `post` would, and answers with the last book. Call j's payouts go
+    /// to place j, zeros where it is refused, and so does its refusal number, 0 where it is accepted; places past the run stay. Refused, with
+    /// nothing written: 3, 4, 9, 10 of the book itself, 9 where the lists' lengths differ, 11 where there is too little room.
+    pub fn run(self, refunds: &[bool], coefficients: &[i64], payouts: &mut [[u64; 16]], numbers: &mut [u8]) -> Result<Book, Refusal> {
         let (paid, room) = (payouts.as_mut_ptr().cast(), 16 * payouts.len());
         let (said, places) = (numbers.as_mut_ptr(), numbers.len());
         let (first, count) = (coefficients.as_ptr(), coefficients.len());
-        let r = unsafe { ffi::mkb_run(self.into(), kinds.as_ptr(), kinds.len(), first, count, paid, room, said, places) };
+        let r = unsafe { ffi::mkb_run(self.into(), refunds.as_ptr(), refunds.len(), first, count, paid, room, said, places) };
         Refusal::or(r.refusal, r.blamed, r.book.into())
     }
 }

@@ -126,7 +126,7 @@ extern "C" {
     pub fn mkb_running_totals(book: Book) -> Totals;
     pub fn mkb_run(
         book: Book,
-        kinds: *const u8,
+        refunds: *const bool,
         calls: usize,
         coefficients: *const i64,
         count: usize,

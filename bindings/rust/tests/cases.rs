@@ -194,16 +194,20 @@ fn broken_books() {
         assert_eq!(book.post(euros(1)), Err(refusal));
         assert_eq!(book.refund(euros(1)), Err(refusal));
         assert_eq!(book.running_totals(), Err(refusal));
+        let (mut paid, mut numbers) = ([[9; 16]], [9]);
+        assert_eq!(book.run(&[false], &[1], &mut paid, &mut numbers), Err(refusal));
+        assert_eq!((book.run(&[], &[], &mut [], &mut []), paid, numbers), (Err(refusal), [[9; 16]], [9]));
     }
 }
 
 #[test]
 fn run_of_calls() {
     let (mut paid, mut numbers) = ([[9; 16]; 6], [9; 6]);
-    let last = at(0).run(&[0, 0, 1, 1, 0], &[7, 5, 3, 10, Amount::L], &mut paid, &mut numbers);
+    let last = at(0).run(&[false, false, true, true, false], &[7, 5, 3, 10, Amount::L], &mut paid, &mut numbers);
     assert_eq!(last, Ok(at(9)));
     assert_eq!(paid.map(|p| [p[0], p[1], p[2], p[3]]), [[4, 2, 1, 0], [2, 2, 1, 0], [1, 1, 1, 0], [0; 4], [0; 4], [9; 4]]);
     assert_eq!(numbers, [0, 0, 0, 12, 13, 9]);
-    assert_eq!(at(9).run(&[0; 6], &[1; 6], &mut paid[..5], &mut numbers), Err(Refusal::Room));
+    assert_eq!(at(9).run(&[false; 6], &[1; 6], &mut paid[..5], &mut numbers), Err(Refusal::Room));
+    assert_eq!(at(9).run(&[false; 2], &[1], &mut paid, &mut numbers), Err(Refusal::Weights));
     assert_eq!(numbers, [0, 0, 0, 12, 13, 9]);
 }

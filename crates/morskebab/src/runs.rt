@@ -10,8 +10,9 @@ ghost use Rattle.bulk.specs.Runs.{runSaid, servedOf, payoutsAfter, numbersAfter
 ghost use Rattle.flat.specs.Given.{bookFrom};
 ghost use Rattle.flat.specs.Books.{ranOf};
 
-// The movements in turn, where `refunds` has true a refund of the coefficient and else a posting: call j's payouts at the sixteen places
-// from 16 x j on and its number, 0 where it is accepted, at place j. The places past the run stay, and all where it is refused.
+// The movements in turn, a refund of the coefficient where `refunds` has true and else a posting: call j's payouts at the sixteen places from
+// 16 x j on and its number, 0 where it is accepted, at place j; the places past the run stay. The run itself is refused, and then every place
+// stays and the given book comes back: 3, 4, 9, 10 for the book, 9 for lists of unequal length, 11 for too little room.
 #[no_mangle]
 pub extern "C" fn mkb_run(
     book: MkbBook,
