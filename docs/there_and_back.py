@@ -12,7 +12,7 @@ HERE = pathlib.Path(__file__).resolve().parent
 sys.path.insert(0, str(HERE.parent / "second"))
 
 from amounts import CURRENCIES, Amount
-from euro import EURO, EURO_DECIMALS, converted
+from euro import EURO, EURO_DECIMALS, convert
 
 TABLE = HERE / "there-and-back.md"
 HEADING = """# There and back
@@ -28,8 +28,8 @@ comes back unchanged (`comes-back`); else the change in cents is at most (K x 10
 
 def there_and_back(cents, unit):
     """The old unit's amount, and the euro amount that comes back."""
-    old = converted(Amount(EURO, EURO_DECIMALS, cents), unit)
-    return old, converted(old, EURO)
+    old = convert(Amount(EURO, EURO_DECIMALS, cents), unit)
+    return old, convert(old, EURO)
 
 
 def smallest_moved(unit):
