@@ -18,6 +18,9 @@ class Unreadable:
     def readline(self, most):
         raise self.error
 
+    def seek(self, *place):
+        raise self.error
+
 
 def is_open(descriptor):
     try:
@@ -55,11 +58,17 @@ def status_of(program, arguments):
         return READING_OR_WRITING_FAILED
 
 
-def run(program):
-    """Runs the program and ends with its status, which goes to descriptor 3 too if that is open."""
+def end_with(status_of_arguments):
+    """Ends with the status that the arguments lead to, which goes to descriptor 3 too if that
+    is open."""
     digit_is_wanted = is_open(STATUS_DIGIT)
-    status = status_of(program, sys.argv[1:])
+    status = status_of_arguments(sys.argv[1:])
     if digit_is_wanted:
         with contextlib.suppress(OSError):
             os.write(STATUS_DIGIT, b"%d" % status)
     sys.exit(status)
+
+
+def run(program):
+    """Runs a program that reads one file, or standard input, and ends with its status."""
+    end_with(lambda arguments: status_of(program, arguments))

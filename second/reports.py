@@ -3,12 +3,12 @@
 from collections import defaultdict
 
 from amounts import CURRENCIES
-from book import ALL_ZERO_BOOK, PARTNERS, post, refund, totals
+from book import ALL_ZERO_BOOK, PARTNERS, totals
 from command import ALL_WELL, CHECK_FAILED, NOT_ALL_ACCEPTED
+from quarter import POST, REFUND, STEPS
 from rounding import ceiling_of, floor_of
 from styles import InNumbers
 
-STEPS = {b"post": post, b"refund": refund}
 CHECK_OK, CHECK_FAILS = "check ok", "check FAILED"
 
 
@@ -79,7 +79,7 @@ class Report:
             yield from self.lines_of_totals()
 
     def lines_of_totals(self):
-        posted, refunded = self.sums[b"post"], self.sums[b"refund"]
+        posted, refunded = self.sums[POST], self.sums[REFUND]
         sums = map(self.say, (posted, refunded, self.book.net))
         yield "posted {} refunded {} net {}".format(*sums)
         partners = self.partners()
@@ -93,7 +93,7 @@ class Report:
 
     def partners(self):
         running = totals(self.book)
-        paid, taken = self.payouts[b"post"], self.payouts[b"refund"]
+        paid, taken = self.payouts[POST], self.payouts[REFUND]
         return [
             Partner(self.book, place, paid[place], taken[place], running[place])
             for place in range(self.book.count)

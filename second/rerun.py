@@ -1,6 +1,5 @@
 """rerun: runs the postings and refunds of each book again and reports on every book."""
 
-from asks import landed
 from book import new_card, open_book
 from command import (
     ALL_WELL,
@@ -9,16 +8,14 @@ from command import (
     READING_OR_WRITING_FAILED,
     run,
 )
-from lines import first_word_is, is_copied, understood
+from lines import is_copied
+from quarter import CARD, OPEN, asked_of_book, ends_the_book
 from reading import Reading
 from refusals import Refusal
-from reports import STEPS, Cards, Report, check_failed
+from reports import Cards, Report, check_failed
 from styles import style_of
 from texts import with_texts_read
 
-OPEN, CARD = b"open", b"card"
-# verbs whose line ends the book also where it is not understood
-ENDING_VERBS = (OPEN, CARD) if landed(9) else (OPEN,)
 BOOK_NONE = "book none"
 
 
@@ -45,8 +42,8 @@ class Rerun:
 
     def take(self, line, line_number):
         """Counts a line that is neither empty nor a comment."""
-        asked = understood(line)
-        if asked is None or asked.verb not in (OPEN, CARD, *STEPS):
+        asked = asked_of_book(line)
+        if asked is None:
             self.take_not_understood(line, line_number)
         elif asked.verb == OPEN:
             currency, *weights = asked.values
@@ -57,7 +54,7 @@ class Rerun:
             self.take_step(asked.verb, asked.values, line_number)
 
     def take_not_understood(self, line, line_number):
-        if any(first_word_is(ending, line) for ending in ENDING_VERBS):
+        if ends_the_book(line):
             self.begin(Report("book not understood"))
         self.report.not_understood.add(line_number)
 

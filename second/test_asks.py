@@ -14,6 +14,7 @@ import checks
 import test_cards
 import test_doubles
 import test_lines
+import test_programs
 import test_statements
 import test_texts
 from amounts import Amount, L
@@ -196,6 +197,7 @@ CHECKS = (
     *test_texts.CHECKS,
     *test_doubles.CHECKS,
     *test_statements.CHECKS,
+    *test_programs.CHECKS,
     (asks.WRITTEN, fixed_cases_are_understood),
     (set(), test_lines.lines_of_asks),
     (set(), test_lines.answers_have_the_right_form),

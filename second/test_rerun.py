@@ -182,6 +182,8 @@ def statuses_of_commands():
     same(ended("desk", "", data=b"sum"), (0, "?\n", "0"))
     same(ended("desk", "", "one two"), (2, "", "2"))
     same(ended("rerun", "", "one two"), (2, "", "2"))
+    same(ended("statement", "", "one"), (2, "", "2"))
+    same(ended("view", "", "one two"), (2, "", "2"))
     for redirection, arguments in (("<&-", ""), ("", "/"), ("", "/no/such/file")):
         same(ended("rerun", redirection, arguments), (3, "end FAILED after 0 lines\n", "3"))
         same(ended("desk", redirection, arguments), (3, "", "3"))
