@@ -11,7 +11,7 @@ use refusal::Checked;
 use refusal::check_rate;
 use rounding::Choice;
 use rounding::Rule;
-use rounding::round;
+use rounding::round_product;
 use rounding::rule_of;
 use whole::is_negative;
 use whole::magnitude;
@@ -46,13 +46,13 @@ fn check(scale: u8, m: u64, currency: Currency, rate: u32) -> Checked
     }
 }
 
-// The interest's coefficient, from the principal's sign and magnitude. The product is below 2^63: at most L x 10,000 x 366.
+// The interest's coefficient, from the principal's sign and magnitude.
 fn accrued(rule: Rule, negative: bool, m: u64, rate: u32, basis: u8, days: u32) -> i64
     requires { ⌜ Accrues m rate days ⌝ }
     ensures { λ r. ⌜ r ≡ accruedTo rule negative m rate basis days ⌝ }
 {
-    let product = m * (rate as u64 * days as u64);
-    let rounded = round(rule, negative, product, (POINTS * year_of(basis)) as u64);
+    let factor = rate as u64 * days as u64;
+    let rounded = round_product(rule, negative, m, factor, (POINTS * year_of(basis)) as u64);
     signed(negative, rounded)
 }
 

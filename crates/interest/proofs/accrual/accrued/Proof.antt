@@ -1,37 +1,40 @@
--- The factors are within their limits, so the product fits, and the rounded magnitude, which is at most the product, fits with its
--- sign. Assumes nothing.
+-- The factors are within their limits, so the leaf gives the rounded magnitude, which is at most their product and fits with its sign.
+-- Assumes nothing.
 use mathlib.Core.Path.{_∙_, ap}
-use Prim.Native.Nat.{ℕ, _*_}
+use Prim.Native.Nat.{ℕ, _*_, _<_}
 use native.Mathlib.Omega.{arith}
 use borrow.Author.Needs.{needs}
 use Rattle.whole.specs.Whole.{heldSigned}
 use Rattle.whole.proofs.Laws.{read-back}
-use Rattle.rounding.specs.Leaf.{roundedMagnitude}
+use Rattle.rounding.specs.Product.{roundedProduct}
+use Rattle.rounding.proofs.Bounds.{at-most}
+use Rattle.rounding.proofs.Capped.{product-is}
 use Rattle.rounding.proofs.Value.{held-rounded}
 use Rattle.calendar.specs.DayCount.{basisOf}
 use Rattle.interest.specs.Accrual.{accruedTo}
-use Rattle.calendar.proofs.Bases.{year-at-most}
+use Rattle.calendar.proofs.Bases.{every-basis, year-at-most}
 use Rattle.interest.proofs.Accrued.{points-fit, product-fits}
 use Rattle.interest.proofs.accrual.accrued.Statement.{statement}
 use Rattle.interest.proofs.accrual.accrued.Tie as tie
 
-mul-product : tie.Need-mul-product
-mul-product c = omega (arith, points-fit (c .pre))
+-- every basis has a year
+year-some : (basis : ℕ) → 0 < basisOf basis .year
+year-some = every-basis (λ b. 0 < b .year) (omega arith) (omega arith, (omega arith, (omega arith, (omega arith, tt))))
 
-mul-product-2 : tie.Need-mul-product-2
-mul-product-2 c = omega (arith, product-fits (c .pre))
+mul-factor : tie.Need-mul-factor
+mul-factor c = omega (arith, points-fit (c .pre))
 
 year-of-requires : tie.Need-year-of-requires
 year-of-requires c κs = search needs
 
-mul-round : tie.Need-mul-round
-mul-round c = omega (arith, c .year-of .ensures, year-at-most (c .before .args .basis))
+mul-round-product : tie.Need-mul-round-product
+mul-round-product c = omega (arith, c .year-of .ensures, year-at-most (c .before .args .basis))
 
-cast-round : tie.Need-cast-round
-cast-round c = omega (arith, c .year-of .ensures, year-at-most (c .before .args .basis))
+cast-round-product : tie.Need-cast-round-product
+cast-round-product c = omega (arith, c .year-of .ensures, year-at-most (c .before .args .basis))
 
-round-requires : tie.Need-round-requires
-round-requires c κs = search needs
+round-product-requires : tie.Need-round-product-requires
+round-product-requires c κs = search needs
 
 signed-requires : tie.Need-signed-requires
 signed-requires c κs = search needs
@@ -41,24 +44,27 @@ unfolding accruedTo
 returns c =
     let s = c .before .before .before in
     let a = s .args in
-    let product = a .m * (a .rate * a .days) in
+    let factor = a .rate * a .days in
     let d = 10000 * basisOf (a .basis) .year in
+    let fits = product-fits (s .pre) in
     read-back (c .signed .result) (c .signed .ok)
     ∙ c .signed .ensures
     ∙ ap (heldSigned (a .negative))
-    (c .before .round .ensures
-    ∙ ap (λ (x : ℕ). roundedMagnitude (a .rule) (a .negative) product (10000 * x)) (c .before .before .year-of .ensures))
-    ∙ held-rounded (a .rule) (a .negative) product d (omega (arith, product-fits (s .pre)))
+    (c .before .round-product .ensures
+    ∙ ap (λ (x : ℕ). roundedProduct (a .rule) (a .negative) (a .m) factor (10000 * x)) (c .before .before .year-of .ensures)
+    ∙ product-is (a .rule) (a .negative) (a .m) factor d (omega (arith, s .pre .principal)) (omega (arith, points-fit (s .pre)))
+    (omega (arith, year-some (a .basis))) (omega (arith, year-at-most (a .basis)))
+    (omega (arith, fits, at-most (a .rule) (a .negative) (a .m * factor) d)))
+    ∙ held-rounded (a .rule) (a .negative) (a .m * factor) d (omega (arith, fits))
 
 pub accrued-spec : {M : Type 1} → statement M
 accrued-spec =
     tie.close
     (tie.spec
-    mul-product
-    mul-product-2
+    mul-factor
     year-of-requires
-    mul-round
-    cast-round
-    round-requires
+    mul-round-product
+    cast-round-product
+    round-product-requires
     signed-requires
     returns)
