@@ -145,6 +145,10 @@ int main(int argc, char **argv)
     row("share 16", LISTS, share_agrees, share_ours, share_plain);
     set_count(64);
     row("share 64", LISTS, share_agrees, share_ours, share_plain);
+    set_one_by_one(0);
+    row("vouchers, 10,000 over 64", LISTS, vouchers_agree, vouchers_ours, vouchers_plain);
+    set_one_by_one(1);
+    row("vouchers, plain C one at a time", LISTS, vouchers_agree, vouchers_ours, vouchers_plain);
     posts(0);
     posts(1);
     runs();

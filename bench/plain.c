@@ -147,6 +147,34 @@ int plain_share(int64_t n, const uint32_t *weights, size_t count, int64_t *out, 
     return 0;
 }
 
+int plain_vouchers(uint32_t vouchers, const uint32_t *weights, size_t count, uint32_t *out, size_t room, int one_by_one)
+{
+    uint64_t sum = 0;
+    uint32_t left = vouchers;
+    if (vouchers > 10000)
+        return 6;
+    if (count < 1 || count > 64)
+        return 9;
+    for (size_t i = 0; i < count; i++)
+        sum += weights[i];
+    if (sum < 1 || sum > 1000000)
+        return 9;
+    if (room < count)
+        return 11;
+    for (size_t i = 0; i < count; i++) {
+        out[i] = one_by_one ? 0 : (uint32_t)((uint64_t)vouchers * weights[i] / sum);
+        left -= out[i];
+    }
+    for (; left; left--) {
+        size_t best = 0;
+        for (size_t i = 1; i < count; i++)
+            if ((uint64_t)weights[best] * (out[i] + 1) < (uint64_t)weights[i] * (out[best] + 1))
+                best = i;
+        out[best]++;
+    }
+    return 0;
+}
+
 void plain_totals_by_unit(const uint32_t weights[16], uint64_t n, uint64_t totals[16])
 {
     uint64_t W = 0, held[16] = {0};

@@ -19,6 +19,9 @@ int64_t plain_interest(int64_t principal, uint32_t rate, uint8_t basis, plain_da
 /* one-off sharing by largest remainder */
 int plain_share(int64_t n, const uint32_t *weights, size_t count, int64_t *out, size_t room);
 
+/* vouchers by highest average: from each share rounded down, or one at a time from none */
+int plain_vouchers(uint32_t vouchers, const uint32_t *weights, size_t count, uint32_t *out, size_t room, int one_by_one);
+
 typedef struct { uint8_t currency, count; uint32_t weights[16]; int64_t net; } plain_book;
 
 /* the running totals at n: unit by unit (the first form), and by the shares (the second form) */

@@ -5,7 +5,7 @@
 
 uint64_t sink;
 static uint8_t one_mode;
-static int mixed, by_unit;
+static int mixed, by_unit, one_by_one;
 static size_t count, calls;
 static uint64_t paid[2][16 * CALLS];
 static uint8_t numbers[2][CALLS];
@@ -14,6 +14,7 @@ static mkb_book opened;
 void set_modes(int all) { mixed = all, one_mode = MKB_HALF_EVEN; }
 void set_count(size_t n) { count = n; }
 void set_calls(size_t n) { calls = n; }
+void set_one_by_one(int on) { one_by_one = on; }
 
 void set_book(uint32_t W, int partners, int skewed, int unit)
 {
@@ -127,6 +128,31 @@ int share_agrees(void)
     for (int i = 0; i < LISTS; i++) {
         int64_t ours[64] = {0}, plain[64] = {0};
         ok &= mkb_share(lists[i].a, lists[i].weights, count, ours, 64) == plain_share(lists[i].a.coefficient, lists[i].weights, count, plain, 64);
+        ok &= !memcmp(ours, plain, sizeof ours);
+    }
+    return ok;
+}
+
+void vouchers_ours(void)
+{
+    uint32_t out[64];
+    for (int i = 0; i < LISTS; i++)
+        sink += mkb_vouchers(10000, lists[i].weights, count, out, 64) + (uint64_t)out[0];
+}
+
+void vouchers_plain(void)
+{
+    uint32_t out[64];
+    for (int i = 0; i < LISTS; i++)
+        sink += (uint64_t)plain_vouchers(10000, lists[i].weights, count, out, 64, one_by_one) + (uint64_t)out[0];
+}
+
+int vouchers_agree(void)
+{
+    int ok = 1;
+    for (int i = 0; i < LISTS; i++) {
+        uint32_t ours[64] = {0}, plain[64] = {0};
+        ok &= mkb_vouchers(10000, lists[i].weights, count, ours, 64) == plain_vouchers(10000, lists[i].weights, count, plain, 64, one_by_one);
         ok &= !memcmp(ours, plain, sizeof ours);
     }
     return ok;

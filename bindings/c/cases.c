@@ -126,6 +126,36 @@ static void shares(void)
     share_is("L + 1", money(EUR, 2, MKB_L + 1), thirds, 3, 66, MKB_MAGNITUDE, 0);
 }
 
+/* so many vouchers into a lent output of `room` places whose every place held 777 */
+static void vouchers_are(const char *name, int64_t vouchers, const uint32_t *weights, size_t count, size_t room, int number, const uint32_t *held)
+{
+    uint32_t out[66];
+    for (int i = 0; i < 66; i++)
+        out[i] = 777;
+    int ok = mkb_vouchers(vouchers, weights, count, out, room) == number;
+    for (size_t i = 0; i < 66; i++)
+        ok = ok && out[i] == (number || i >= count ? 777 : held[i]);
+    tell(ok, name);
+}
+
+static void vouchers(void)
+{
+    static const uint32_t four[] = {100000, 80000, 30000, 20000}, equal[] = {1, 1, 1}, last[] = {0, 1}, none[65] = {0}, over[] = {1000000, 1};
+    vouchers_are("8 over four weights", 8, four, 4, 66, 0, (uint32_t[]){4, 3, 1, 0});
+    vouchers_are("as many places as weights", 8, four, 4, 4, 0, (uint32_t[]){4, 3, 1, 0});
+    vouchers_are("a tie goes to the lower place", 4, equal, 3, 66, 0, (uint32_t[]){2, 1, 1});
+    vouchers_are("nothing for the weight 0", 10000, last, 2, 66, 0, (uint32_t[]){0, 10000});
+    vouchers_are("no vouchers", 0, four, 4, 66, 0, (uint32_t[]){0, 0, 0, 0});
+    vouchers_are("10,001 vouchers", 10001, none, 0, 0, MKB_RATE, 0);
+    vouchers_are("-1 voucher", -1, four, 4, 66, MKB_RATE, 0);
+    vouchers_are("2^32 vouchers", INT64_C(1) << 32, four, 4, 66, MKB_RATE, 0);
+    vouchers_are("three places for four", 8, four, 4, 3, MKB_ROOM, 0);
+    vouchers_are("no weights", 8, four, 0, 66, MKB_WEIGHTS, 0);
+    vouchers_are("sixty-five weights", 8, none, 65, 66, MKB_WEIGHTS, 0);
+    vouchers_are("a sum of 0", 8, none, 3, 2, MKB_WEIGHTS, 0);
+    vouchers_are("a sum of 1,000,001", 8, over, 2, 66, MKB_WEIGHTS, 0);
+}
+
 static const uint32_t weights[3] = {5, 3, 2};
 
 static mkb_book book(int64_t net) { return (mkb_book){.currency = EUR, .count = 3, .weights = {5, 3, 2}, .net = net}; }
@@ -230,6 +260,7 @@ int main(void)
     interest();
     tax();
     shares();
+    vouchers();
     opening();
     history();
     refusals();

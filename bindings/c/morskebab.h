@@ -23,7 +23,7 @@ extern "C" {
 #endif
 
 /* 10,000 x major + 100 x minor + patch of this header; mkb_version() is that of the library which is linked */
-#define MKB_VERSION UINT32_C(10000)
+#define MKB_VERSION UINT32_C(10100)
 
 /* Document 01's table: a number is given exactly when its row holds for something that the call takes or makes and no smaller row does. */
 enum mkb_refusal {
@@ -33,7 +33,7 @@ enum mkb_refusal {
     MKB_MAGNITUDE = 3, /* a given coefficient or net total is over L, or a plain numerator is over 10^18 */
     MKB_UNKNOWN = 4,   /* a currency number is over 20 */
     MKB_DIFFER = 5,    /* two currencies that must agree differ */
-    MKB_RATE = 6,      /* a plain divisor isn't 1 to 10^18, a rate is outside its limits, or the basis isn't 0 to 3 */
+    MKB_RATE = 6,      /* a plain divisor isn't 1 to 10^18, a rate or a number of vouchers is outside its limits, or the basis isn't 0 to 3 */
     MKB_DATE = 7,      /* a date doesn't exist or its year isn't 1900 to 2199 */
     MKB_DAYS = 8,      /* the end is before the start, or the day count is over 366 */
     MKB_WEIGHTS = 9,   /* weights break their rule */
@@ -160,6 +160,9 @@ mkb_split mkb_tax_from_gross(mkb_amount gross, int64_t rate, int64_t mode);
 
 /* shares by largest remainder into the first `count` places of out, the others untouched; a refusal writes nothing; 0, or 2, 3, 4, 9, 11 */
 uint8_t mkb_share(mkb_amount a, const uint32_t *weights, size_t count, int64_t *out, size_t room);
+/* `vouchers` whole vouchers, up to 10,000, by highest average into the first `count` places of out, the others untouched; a refusal writes
+ * nothing; 0, or 6, 9, 11 */
+uint8_t mkb_vouchers(int64_t vouchers, const uint32_t *weights, size_t count, uint32_t *out, size_t room);
 
 /* a book with these weights and a net total of 0: refusals 4, 9 */
 mkb_opened mkb_open(int64_t currency, const uint32_t *weights, size_t count);

@@ -222,6 +222,16 @@ class Amount:
         return tuple(out[:count])
 
 
+def vouchers(count: int, weights: Sequence[int]) -> list[int]:
+    """How many of so many whole vouchers each weight gets by highest average: refusals 6, 9."""
+    lent, places = as_list(c_uint32, "weights", weights)
+    out = (c_uint32 * (places + 1))()
+    number = _library.mkb_vouchers(whole(c_int64, "count", count), lent, places, out, places)
+    if number:
+        raise Refused(number)
+    return out[:places]
+
+
 class Split(NamedTuple):
     """A price taken apart."""
 

@@ -12,7 +12,7 @@ REASONS = {
     3: "a given coefficient or net total is over L, or a plain numerator over 10^18",
     4: "a currency number is over 20",
     5: "two currencies that must agree differ",
-    6: "a divisor, a rate or the basis is outside its limits",
+    6: "a divisor, a rate, a number of vouchers or the basis is outside its limits",
     7: "a date doesn't exist or its year isn't 1900 to 2199",
     8: "the end is before the start, or the day count is over 366",
     9: "weights break their rule",

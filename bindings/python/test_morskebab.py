@@ -11,7 +11,7 @@ import morskebab
 from morskebab import (
     DEM, EUR, FRF, IEP, ITL, CEILING, DOWN, FLOOR, HALF_DOWN, HALF_EVEN, HALF_UP, UP, L, REASONS,
     ACTUAL_360, ACTUAL_365, THIRTY_360_AMERICAN, THIRTY_360_EUROPEAN,
-    Amount, Book, Date, Moved, Ran, Refused, Split, currency_line, day_count, plain_quotient,
+    Amount, Book, Date, Moved, Ran, Refused, Split, currency_line, day_count, plain_quotient, vouchers,
 )
 from morskebab_c import PARTNERS, CAmount, CBook
 
@@ -196,6 +196,23 @@ def shares():
     refused(9, lambda: euros(100).share([0] * 65))
 
 
+def handed_out():
+    four = [100000, 80000, 30000, 20000]
+    same(vouchers(8, four), [4, 3, 1, 0])
+    same(vouchers(4, (1, 1, 1)), [2, 1, 1])
+    same((vouchers(10000, [0, 1]), vouchers(0, four)), ([0, 10000], [0, 0, 0, 0]))
+    for count in (10001, -1, 2**32):
+        refused(6, lambda: vouchers(count, four))
+    for weights in ([], [0] * 65, [0, 0, 0], [1000000, 1]):
+        refused(9, lambda: vouchers(8, weights))
+    refused(6, lambda: vouchers(10001, []))
+    lent, out = (c_uint32 * 4)(*four), (c_uint32 * 6)(*[777] * 6)
+    same((morskebab._library.mkb_vouchers(8, lent, 4, out, 3), out[:]), (11, [777] * 6))
+    same((morskebab._library.mkb_vouchers(8, lent, 4, out, 6), out[:]), (0, [4, 3, 1, 0, 777, 777]))
+    named(TypeError, "count", lambda: vouchers(8.0, four))
+    named(TypeError, "weights must be", lambda: vouchers(8, {5, 3}))
+
+
 def books():
     book = Book.open(EUR, [5, 3, 2])
     same(book, Book(EUR, (5, 3, 2), 0))
@@ -267,11 +284,11 @@ def processes():
 
 def versions():
     header = (pathlib.Path(__file__).parent.parent / "c" / "morskebab.h").read_text()
-    same((morskebab.__version__, morskebab.VERSION), ("1.0.0", int(re.search(r"#define MKB_VERSION UINT32_C\((\d+)\)", header)[1])))
+    same((morskebab.__version__, morskebab.VERSION), ("1.1.0", int(re.search(r"#define MKB_VERSION UINT32_C\((\d+)\)", header)[1])))
 
 
 def main():
-    for part in (modes, amounts, past_limits, texts_and_decimals, fields, lines, euro_steps, days, prices, shares, books, broken_books, processes, versions):
+    for part in (modes, amounts, past_limits, texts_and_decimals, fields, lines, euro_steps, days, prices, shares, handed_out, books, broken_books, processes, versions):
         part()
     examples = doctest.testmod(morskebab)
     assert not examples.failed

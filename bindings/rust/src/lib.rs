@@ -184,6 +184,14 @@ impl Amount {
     }
 }
 
+/// So many whole vouchers by highest average into the first places of `out`, as many as weights; the others, and every place where the call is
+/// refused, stay as they stood: refusals 6, 9, 11.
+pub fn vouchers(count: u32, weights: &[u32], out: &mut [u32]) -> Result<(), Refusal> {
+    // SAFETY: a slice is lent whole
+    let number = unsafe { ffi::mkb_vouchers(count.into(), weights.as_ptr(), weights.len(), out.as_mut_ptr(), out.len()) };
+    Refusal::or(number, 0, ())
+}
+
 /// A date; [`Date::exists`] says whether there is one.
 #[derive(Clone, Copy, Debug, PartialEq, Eq)]
 pub struct Date {

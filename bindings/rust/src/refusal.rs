@@ -21,7 +21,7 @@ pub enum Refusal {
     Unknown,
     /// 5: two currencies that must agree differ
     Differ,
-    /// 6: a plain divisor isn't 1 to 10^18, a rate is outside its limits, or the basis isn't 0 to 3
+    /// 6: a plain divisor isn't 1 to 10^18, a rate or a number of vouchers is outside its limits, or the basis isn't 0 to 3
     Rate,
     /// 7: a date doesn't exist or its year isn't 1900 to 2199
     Date(Blamed),
@@ -67,7 +67,7 @@ impl Refusal {
             Refusal::Magnitude => "a given coefficient or net total is over L, or a plain numerator over 10^18",
             Refusal::Unknown => "a currency number is over 20",
             Refusal::Differ => "two currencies that must agree differ",
-            Refusal::Rate => "a divisor, a rate or the basis is outside its limits",
+            Refusal::Rate => "a divisor, a rate, a number of vouchers or the basis is outside its limits",
             Refusal::Date(Blamed::First) => "a date doesn't exist or its year isn't 1900 to 2199 (the first date)",
             Refusal::Date(Blamed::Second) => "a date doesn't exist or its year isn't 1900 to 2199 (the second date)",
             Refusal::Days => "the end is before the start, or the day count is over 366",

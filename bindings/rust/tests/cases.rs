@@ -1,5 +1,5 @@
 //! Document 01's cases ("Two sides of each line"), its table of currencies and books broken in each field through the Rust crate.
-use morskebab::{day_count, mode, plain_quotient, version, Amount, Basis, Blamed, Book, Currency, Date, Moved, Refusal, Split};
+use morskebab::{day_count, mode, plain_quotient, version, vouchers, Amount, Basis, Blamed, Book, Currency, Date, Moved, Refusal, Split};
 use std::cmp::Ordering;
 
 const EUR: Currency = Currency(0);
@@ -136,6 +136,24 @@ fn shares() {
     let mut untouched = [777; 2];
     assert_eq!(euros(100).share(&[1, 1, 1], &mut untouched), Err(Refusal::Room));
     assert_eq!(untouched, [777; 2]);
+}
+
+#[test]
+fn vouchers_handed_out() {
+    let handed = |count, weights: &[u32], room| {
+        let mut out = [777; 6];
+        (vouchers(count, weights, &mut out[..room]), out)
+    };
+    let four = [100_000, 80_000, 30_000, 20_000];
+    assert_eq!(handed(8, &four, 6), (Ok(()), [4, 3, 1, 0, 777, 777]));
+    assert_eq!(handed(4, &[1, 1, 1], 3), (Ok(()), [2, 1, 1, 777, 777, 777]));
+    assert_eq!(handed(10_000, &[0, 1], 6), (Ok(()), [0, 10_000, 777, 777, 777, 777]));
+    assert_eq!(handed(8, &four, 3), (Err(Refusal::Room), [777; 6]));
+    assert_eq!(handed(10_001, &[], 0), (Err(Refusal::Rate), [777; 6]));
+    assert_eq!(handed(u32::MAX, &four, 6), (Err(Refusal::Rate), [777; 6]));
+    for weights in [&[][..], &[0; 65], &[0, 0, 0], &[1_000_000, 1]] {
+        assert_eq!(handed(8, weights, 2), (Err(Refusal::Weights), [777; 6]));
+    }
 }
 
 fn at(net: i64) -> Book {

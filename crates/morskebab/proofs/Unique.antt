@@ -9,11 +9,12 @@ use lib.ListN.{length}
 use Rattle.rounding.proofs.Unique.{one-answer}
 use Rattle.weights.specs.Lent.{outAfter}
 use Rattle.sharing.specs.Shared.{sharedSaid}
+use Rattle.vouchers.specs.Said.{vouchersSaid}
 use Rattle.flat.specs.declared.MkbAmount.{MkbAmount}
 use Rattle.bulk.specs.Runs.{runSaid, payoutsAfter, numbersAfter}
 use Rattle.flat.specs.declared.MkbBook.{MkbBook}
 use Rattle.flat.specs.declared.MkbRan.{MkbRan}
-use Rattle.flat.specs.Given.{amountFrom, bookFrom}
+use Rattle.flat.specs.Given.{amountFrom, bookFrom, passed32}
 use Rattle.flat.specs.Answers.{refusalOf}
 use Rattle.flat.specs.Books.{ranOf}
 
@@ -25,6 +26,15 @@ Shares a weights out r left =
 pub one-share : (a : MkbAmount) (weights : List ℕ) (out : List ℤ) (r s : ℕ) (left left′ : List ℤ)
     → Shares a weights out r left → Shares a weights out s left′ → (r ≡ s) × (left ≡ left′)
 one-share a weights out r s left left′ p q = (one-answer (p .0) (q .0), one-answer (p .1) (q .1))
+
+-- what `mkb_vouchers` promises of its answer and of the output that it was lent
+abbrev pub Vouchers : (count : ℤ) (weights out : List ℕ) (r : ℕ) (left : List ℕ) → Type 0
+Vouchers count weights out r left =
+    let said = vouchersSaid (passed32 count) weights (length out) in (r ≡ refusalOf said) × (left ≡ outAfter said out)
+
+pub one-vouchers : (count : ℤ) (weights out : List ℕ) (r s : ℕ) (left left′ : List ℕ)
+    → Vouchers count weights out r left → Vouchers count weights out s left′ → (r ≡ s) × (left ≡ left′)
+one-vouchers count weights out r s left left′ p q = (one-answer (p .0) (q .0), one-answer (p .1) (q .1))
 
 -- what `mkb_run` promises of its answer and of the places that it was lent, which are those after as many calls as the answer says were served
 pub record Ran (book : MkbBook) (refunds : List Bool) (coefficients : List ℤ) (payouts numbers : List ℕ) (r : MkbRan) (paid said : List ℕ) : Type 0 where
