@@ -112,6 +112,34 @@ int64_t plain_interest(int64_t principal, uint32_t rate, uint8_t basis, plain_da
     return r;
 }
 
+static uint64_t half_even(uint64_t n, uint64_t d)
+{
+    uint64_t q = n / d, r = n % d;
+    return q + (r + (q & 1) > d - r);
+}
+
+int plain_compound(int64_t principal, uint32_t rate, uint32_t periods, int64_t *out, size_t room)
+{
+    int64_t rows[121];
+    if (principal > (int64_t)PLAIN_L || principal < -(int64_t)PLAIN_L)
+        return 3;
+    if (rate > 10000 || periods > 120)
+        return 6;
+    if (principal < 0)
+        return 10;
+    if (room < periods + 1)
+        return 11;
+    uint64_t balance = (uint64_t)principal;
+    for (uint32_t i = 0; i <= periods; i++) {
+        if (balance > PLAIN_L)
+            return 13;
+        rows[i] = (int64_t)balance;
+        balance += half_even(balance * rate, 10000);
+    }
+    memcpy(out, rows, (periods + 1) * sizeof *rows);
+    return 0;
+}
+
 int plain_share(int64_t n, const uint32_t *weights, size_t count, int64_t *out, size_t room)
 {
     uint64_t sum = 0, rest[64], left;

@@ -16,6 +16,9 @@ int64_t plain_convert(uint8_t from, uint8_t scale, int64_t n, uint8_t to, int *r
 typedef struct { uint16_t year; uint8_t month, day; } plain_date;
 int64_t plain_interest(int64_t principal, uint32_t rate, uint8_t basis, plain_date start, plain_date end, uint8_t mode, int *refusal);
 
+/* a principal and its balance after each period */
+int plain_compound(int64_t principal, uint32_t rate, uint32_t periods, int64_t *out, size_t room);
+
 /* one-off sharing by largest remainder */
 int plain_share(int64_t n, const uint32_t *weights, size_t count, int64_t *out, size_t room);
 

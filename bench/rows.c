@@ -108,6 +108,40 @@ int interest_agrees(void)
     return ok;
 }
 
+/* a list's first numbers as a principal and a rate whose table of 120 periods has no row over L */
+static mkb_amount principal_of(const list *l)
+{
+    int64_t n = l->a.coefficient / 1000;
+    return (mkb_amount){.currency = 0, .scale = 2, .coefficient = n < 0 ? -n : n};
+}
+
+static uint32_t rate_of(const list *l) { return l->weights[0] % 501; }
+
+void compound_ours(void)
+{
+    int64_t out[121];
+    for (int i = 0; i < LISTS; i++)
+        sink += mkb_compound(principal_of(&lists[i]), rate_of(&lists[i]), 120, out, 121) + (uint64_t)out[120];
+}
+
+void compound_plain(void)
+{
+    int64_t out[121];
+    for (int i = 0; i < LISTS; i++)
+        sink += (uint64_t)plain_compound(principal_of(&lists[i]).coefficient, rate_of(&lists[i]), 120, out, 121) + (uint64_t)out[120];
+}
+
+int compound_agrees(void)
+{
+    int ok = 1;
+    for (int i = 0; i < LISTS; i++) {
+        int64_t ours[121] = {0}, plain[121] = {0};
+        ok &= !mkb_compound(principal_of(&lists[i]), rate_of(&lists[i]), 120, ours, 121);
+        ok &= !plain_compound(principal_of(&lists[i]).coefficient, rate_of(&lists[i]), 120, plain, 121) && !memcmp(ours, plain, sizeof ours);
+    }
+    return ok;
+}
+
 void share_ours(void)
 {
     int64_t out[64];

@@ -17,11 +17,12 @@ void set_one_by_one(int on);
 void set_book(uint32_t W, int partners, int skewed, int unit);
 
 void round_ours(void), round_plain(void), convert_ours(void), convert_plain(void), interest_ours(void), interest_plain(void);
+void compound_ours(void), compound_plain(void);
 void share_ours(void), share_plain(void), vouchers_ours(void), vouchers_plain(void), post_ours(void), post_plain(void);
 /* a run of so many calls on the book */
 void set_calls(size_t n);
 void run_ours(void), run_plain(void);
 int run_agrees(void);
 
-int round_agrees(void), convert_agrees(void), interest_agrees(void), share_agrees(void), vouchers_agree(void), post_agrees(void);
+int round_agrees(void), convert_agrees(void), interest_agrees(void), compound_agrees(void), share_agrees(void), vouchers_agree(void), post_agrees(void);
 #endif

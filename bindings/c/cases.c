@@ -82,6 +82,43 @@ static void interest(void)
     tell(mkb_date_exists((mkb_date){2000, 2, 29}) && !mkb_date_exists(none), "29 February 2000 and 1900");
 }
 
+/* a table into a lent list of `room` places whose every place held 777 */
+static void table_is(const char *name, mkb_amount principal, int64_t rate, int64_t periods, size_t room, int number, const int64_t *balances)
+{
+    int64_t out[123];
+    for (int i = 0; i < 123; i++)
+        out[i] = 777;
+    int ok = mkb_compound(principal, rate, periods, out, room) == number;
+    for (int64_t i = 0; i < 123; i++)
+        ok = ok && out[i] == (number || i > periods ? 777 : balances[i]);
+    tell(ok, name);
+}
+
+static void tables(void)
+{
+    int64_t doubled = MKB_L / 2, level[121];
+    for (int i = 0; i < 121; i++)
+        level[i] = MKB_L;
+    table_is("100.00 at 5 % for three periods", money(EUR, 2, 10000), 500, 3, 123, 0, (int64_t[]){10000, 10500, 11025, 11576});
+    table_is("as many places as rows", money(EUR, 2, 10000), 500, 3, 4, 0, (int64_t[]){10000, 10500, 11025, 11576});
+    table_is("halves to the even", money(EUR, 2, 3), 5000, 2, 123, 0, (int64_t[]){3, 5, 7});
+    table_is("0 periods", money(EUR, 2, 10000), 500, 0, 1, 0, (int64_t[]){10000});
+    table_is("rate 0", money(EUR, 2, 10000), 0, 2, 123, 0, (int64_t[]){10000, 10000, 10000});
+    table_is("L at rate 0 for 120 periods", money(EUR, 2, MKB_L), 0, 120, 121, 0, level);
+    table_is("within L", money(EUR, 2, doubled), 10000, 1, 123, 0, (int64_t[]){doubled, 2 * doubled});
+    table_is("the last row over L", money(EUR, 2, doubled), 10000, 2, 123, MKB_LIMIT, 0);
+    table_is("121 periods", money(EUR, 2, -1), 0, 121, 0, MKB_RATE, 0);
+    table_is("-1 periods", money(EUR, 2, 1), 0, -1, 123, MKB_RATE, 0);
+    table_is("2^32 periods", money(EUR, 2, 1), 0, INT64_C(1) << 32, 123, MKB_RATE, 0);
+    table_is("rate 10,001", money(EUR, 2, -1), 10001, 0, 0, MKB_RATE, 0);
+    table_is("rate -1", money(EUR, 2, 1), -1, 1, 123, MKB_RATE, 0);
+    table_is("a negative principal", money(EUR, 2, -1), 500, 3, 0, MKB_NEGATIVE, 0);
+    table_is("three places for four rows", money(EUR, 2, MKB_L), 500, 3, 3, MKB_ROOM, 0);
+    table_is("a principal over L", money(EUR, 2, INT64_MIN), 10001, 121, 0, MKB_MAGNITUDE, 0);
+    table_is("a principal of scale 7", money(EUR, 7, 1), 0, 1, 123, MKB_SCALE, 0);
+    table_is("a principal in currency 21", money(21, 2, 1), 0, 1, 123, MKB_UNKNOWN, 0);
+}
+
 static void split_is(const char *name, mkb_split r, int64_t net, int64_t tax, int64_t gross)
 {
     tell(!r.refusal && !r.blamed && same_amount(r.net, money(EUR, 2, net)) && same_amount(r.tax, money(EUR, 2, tax)) &&
@@ -258,6 +295,7 @@ int main(void)
     amounts();
     euro();
     interest();
+    tables();
     tax();
     shares();
     vouchers();

@@ -23,7 +23,7 @@ extern "C" {
 #endif
 
 /* 10,000 x major + 100 x minor + patch of this header; mkb_version() is that of the library which is linked */
-#define MKB_VERSION UINT32_C(10100)
+#define MKB_VERSION UINT32_C(10200)
 
 /* Document 01's table: a number is given exactly when its row holds for something that the call takes or makes and no smaller row does. */
 enum mkb_refusal {
@@ -33,14 +33,14 @@ enum mkb_refusal {
     MKB_MAGNITUDE = 3, /* a given coefficient or net total is over L, or a plain numerator is over 10^18 */
     MKB_UNKNOWN = 4,   /* a currency number is over 20 */
     MKB_DIFFER = 5,    /* two currencies that must agree differ */
-    MKB_RATE = 6,      /* a plain divisor isn't 1 to 10^18, a rate or a number of vouchers is outside its limits, or the basis isn't 0 to 3 */
+    MKB_RATE = 6,      /* a plain divisor isn't 1 to 10^18, a rate, a number of vouchers or of periods is outside its limits, or the basis isn't 0 to 3 */
     MKB_DATE = 7,      /* a date doesn't exist or its year isn't 1900 to 2199 */
     MKB_DAYS = 8,      /* the end is before the start, or the day count is over 366 */
     MKB_WEIGHTS = 9,   /* weights break their rule */
-    MKB_NEGATIVE = 10, /* a posting, a refund or a given net total is negative */
+    MKB_NEGATIVE = 10, /* a posting, a refund, a table's principal or a given net total is negative */
     MKB_ROOM = 11,     /* the lent output is too short */
     MKB_REFUND = 12,   /* a refund is greater than the net total */
-    MKB_LIMIT = 13     /* the result, the euro step or the new net total is over L */
+    MKB_LIMIT = 13     /* the result, the euro step, a row of a table or the new net total is over L */
 };
 
 /* away from zero, toward zero, toward the greater, toward the lesser; to the nearest, a half away from zero, toward zero, to the even */
@@ -152,6 +152,10 @@ bool mkb_date_exists(mkb_date date);
 mkb_days mkb_day_count(int64_t basis, mkb_date start, mkb_date end);
 /* principal x rate x days / (10,000 x year), rounded once at the principal's scale: refusals 1, 2, 3, 4, 6, 7, 8, 13 */
 mkb_amount_answer mkb_interest(mkb_amount principal, int64_t rate, int64_t basis, mkb_date start, mkb_date end, int64_t mode);
+
+/* the principal and its balance after each period, each the one before and its interest, rate / 10,000 rounded HALF_EVEN, into the first periods + 1
+ * places of out, at the principal's scale, the others untouched; a refusal writes nothing; 0, or 2, 3, 4, 6, 10, 11, 13 */
+uint8_t mkb_compound(mkb_amount principal, int64_t rate, int64_t periods, int64_t *out, size_t room);
 
 /* tax = net x rate / 1,000,000 rounded by the mode, gross = net + tax: refusals 1, 2, 3, 4, 6, 13 */
 mkb_split mkb_tax_from_net(mkb_amount net, int64_t rate, int64_t mode);

@@ -44,9 +44,10 @@ class Basis(IntEnum):
 
 ACTUAL_360, ACTUAL_365, THIRTY_360_AMERICAN, THIRTY_360_EUROPEAN = Basis
 
-# the largest magnitude of a coefficient, and the largest scale
+# the largest magnitude of a coefficient, the largest scale, and the most periods of a table
 L = 99_999_999_999
 SCALE = 6
+PERIODS = 120
 
 _library = load()
 
@@ -203,6 +204,14 @@ class Amount:
         start, end = is_a(Date, "start", start), is_a(Date, "end", end)
         numbers = whole(c_int64, "rate", rate), is_a(Basis, "basis", basis)
         return Amount._of(_accepted(_library.mkb_interest(self._c(), *numbers, start._c(), end._c(), whole(c_int64, "mode", mode))).amount)
+
+    def compound(self, rate: int, periods: int) -> list[Amount]:
+        """This and its balance after each period, each the one before and its interest, rate / 10,000 rounded HALF_EVEN: refusals 2, 3, 4, 6, 10, 13."""
+        out = (c_int64 * (PERIODS + 1))()
+        number = _library.mkb_compound(self._c(), whole(c_int64, "rate", rate), whole(c_int64, "periods", periods), out, PERIODS + 1)
+        if number:
+            raise Refused(number)
+        return [Amount(self.currency, self.scale, balance) for balance in out[: periods + 1]]
 
     def tax_as_net(self, rate: int, mode: int) -> Split:
         """Tax = net x rate / 1,000,000 rounded by the mode, gross = net + tax: refusals 1, 2, 3, 4, 6, 13."""

@@ -6,7 +6,7 @@ from ctypes import POINTER, Structure, c_bool, c_int8, c_int32, c_int64, c_size_
 
 PARTNERS = 16
 # MKB_VERSION: 10,000 x major + 100 x minor + patch
-VERSION = 10100
+VERSION = 10200
 
 
 class CAmount(Structure):
@@ -59,6 +59,7 @@ FUNCTIONS = {
     "mkb_date_exists": (c_bool, CDate),
     "mkb_day_count": (CDays, c_int64, CDate, CDate),
     "mkb_interest": (CAmountAnswer, CAmount, c_int64, c_int64, CDate, CDate, c_int64),
+    "mkb_compound": (c_uint8, CAmount, c_int64, c_int64, *_lent(c_int64)),
     "mkb_tax_from_net": (CSplit, CAmount, c_int64, c_int64),
     "mkb_tax_from_gross": (CSplit, CAmount, c_int64, c_int64),
     "mkb_share": (c_uint8, CAmount, *_lent(c_uint32), *_lent(c_int64)),

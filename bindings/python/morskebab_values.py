@@ -12,14 +12,14 @@ REASONS = {
     3: "a given coefficient or net total is over L, or a plain numerator over 10^18",
     4: "a currency number is over 20",
     5: "two currencies that must agree differ",
-    6: "a divisor, a rate, a number of vouchers or the basis is outside its limits",
+    6: "a divisor, a rate, a number of vouchers or of periods or the basis is outside its limits",
     7: "a date doesn't exist or its year isn't 1900 to 2199",
     8: "the end is before the start, or the day count is over 366",
     9: "weights break their rule",
-    10: "a posting, a refund or a given net total is negative",
+    10: "a posting, a refund, a table's principal or a given net total is negative",
     11: "the lent output is too short",
     12: "a refund is greater than the net total",
-    13: "the result, the euro step or the new net total is over L",
+    13: "the result, the euro step, a row of a table or the new net total is over L",
 }
 
 

@@ -179,6 +179,27 @@ def days():
     refused(8, lambda: day_count(ACTUAL_360, mar, feb))
 
 
+def tables():
+    same(euros(10000).compound(500, 3), [euros(10000), euros(10500), euros(11025), euros(11576)])
+    same(euros(3).compound(5000, 2), [euros(3), euros(5), euros(7)])
+    same((euros(10000).compound(500, 0), euros(10000, 3).compound(0, 2)), ([euros(10000)], [euros(10000, 3)] * 3))
+    same(euros(L).compound(0, 120), [euros(L)] * 121)
+    same(euros(L // 2).compound(10000, 1), [euros(L // 2), euros(L - 1)])
+    refused(13, lambda: euros(L // 2).compound(10000, 2))
+    for rate, periods in ((0, 121), (0, -1), (0, 2**32), (10001, 0), (-1, 1)):
+        refused(6, lambda: euros(-1).compound(rate, periods))
+    refused(10, lambda: euros(-1).compound(500, 3))
+    refused(3, lambda: euros(-(2**63)).compound(10001, 121))
+    refused(2, lambda: euros(1, 7).compound(0, 1))
+    refused(4, lambda: Amount(21, 2, 1).compound(0, 1))
+    out = (c_int64 * 6)(*[777] * 6)
+    for principal, room, number in ((10000, 3, 11), (L, 6, 13), (-1, 6, 10)):
+        same((morskebab._library.mkb_compound(CAmount(EUR, 2, principal), 500, 3, out, room), out[:]), (number, [777] * 6))
+    same((morskebab._library.mkb_compound(CAmount(EUR, 2, 10000), 500, 3, out, 6), out[:]), (0, [10000, 10500, 11025, 11576, 777, 777]))
+    named(TypeError, "periods", lambda: euros(1).compound(0, "3"))
+    named(OverflowError, "rate", lambda: euros(1).compound(2**64, 3))
+
+
 def prices():
     same(euros(100).tax_as_gross(200000, HALF_UP), Split(euros(83), euros(17), euros(100)))
     same(euros(3).tax_as_gross(200000, HALF_UP), Split(euros(2), euros(1), euros(3)))
@@ -284,11 +305,11 @@ def processes():
 
 def versions():
     header = (pathlib.Path(__file__).parent.parent / "c" / "morskebab.h").read_text()
-    same((morskebab.__version__, morskebab.VERSION), ("1.1.0", int(re.search(r"#define MKB_VERSION UINT32_C\((\d+)\)", header)[1])))
+    same((morskebab.__version__, morskebab.VERSION), ("1.2.0", int(re.search(r"#define MKB_VERSION UINT32_C\((\d+)\)", header)[1])))
 
 
 def main():
-    for part in (modes, amounts, past_limits, texts_and_decimals, fields, lines, euro_steps, days, prices, shares, handed_out, books, broken_books, processes, versions):
+    for part in (modes, amounts, past_limits, texts_and_decimals, fields, lines, euro_steps, days, tables, prices, shares, handed_out, books, broken_books, processes, versions):
         part()
     examples = doctest.testmod(morskebab)
     assert not examples.failed

@@ -117,6 +117,7 @@ extern "C" {
     pub fn mkb_date_exists(date: Date) -> bool;
     pub fn mkb_day_count(basis: i64, start: Date, end: Date) -> Days;
     pub fn mkb_interest(principal: Amount, rate: i64, basis: i64, start: Date, end: Date, mode: i64) -> AmountAnswer;
+    pub fn mkb_compound(principal: Amount, rate: i64, periods: i64, out: *mut i64, room: usize) -> u8;
     pub fn mkb_tax_from_net(net: Amount, rate: i64, mode: i64) -> Split;
     pub fn mkb_tax_from_gross(gross: Amount, rate: i64, mode: i64) -> Split;
     pub fn mkb_share(a: Amount, weights: *const u32, count: usize, out: *mut i64, room: usize) -> u8;

@@ -166,6 +166,13 @@ impl Amount {
         unsafe { ffi::mkb_interest(self.into(), rate.into(), basis.into(), start.into(), end.into(), mode.into()) }.into()
     }
 
+    /// This and its balance after each period, each the one before and its interest, rate / 10,000 rounded HALF_EVEN, into the first places of
+    /// `out`, one more than periods; the others, and every place where the call is refused, stay as they stood: refusals 2, 3, 4, 6, 10, 11, 13.
+    pub fn compound(self, rate: u32, periods: u32, out: &mut [i64]) -> Result<(), Refusal> {
+        let number = unsafe { ffi::mkb_compound(self.into(), rate.into(), periods.into(), out.as_mut_ptr(), out.len()) };
+        Refusal::or(number, 0, ())
+    }
+
     /// Tax = net x rate / 1,000,000 rounded by the mode, gross = net + tax: refusals 1, 2, 3, 4, 6, 13.
     pub fn tax_as_net(self, rate: u32, mode: u8) -> Result<Split, Refusal> {
         unsafe { ffi::mkb_tax_from_net(self.into(), rate.into(), mode.into()) }.into()

@@ -21,7 +21,7 @@ pub enum Refusal {
     Unknown,
     /// 5: two currencies that must agree differ
     Differ,
-    /// 6: a plain divisor isn't 1 to 10^18, a rate or a number of vouchers is outside its limits, or the basis isn't 0 to 3
+    /// 6: a plain divisor isn't 1 to 10^18, a rate, a number of vouchers or of periods is outside its limits, or the basis isn't 0 to 3
     Rate,
     /// 7: a date doesn't exist or its year isn't 1900 to 2199
     Date(Blamed),
@@ -29,13 +29,13 @@ pub enum Refusal {
     Days,
     /// 9: weights break their rule
     Weights,
-    /// 10: a posting, a refund or a given net total is negative
+    /// 10: a posting, a refund, a table's principal or a given net total is negative
     Negative,
     /// 11: the lent output is too short
     Room,
     /// 12: a refund is greater than the net total
     Refund,
-    /// 13: the result, the euro step or the new net total is over L
+    /// 13: the result, the euro step, a row of a table or the new net total is over L
     Limit,
 }
 
@@ -67,15 +67,15 @@ impl Refusal {
             Refusal::Magnitude => "a given coefficient or net total is over L, or a plain numerator over 10^18",
             Refusal::Unknown => "a currency number is over 20",
             Refusal::Differ => "two currencies that must agree differ",
-            Refusal::Rate => "a divisor, a rate, a number of vouchers or the basis is outside its limits",
+            Refusal::Rate => "a divisor, a rate, a number of vouchers or of periods or the basis is outside its limits",
             Refusal::Date(Blamed::First) => "a date doesn't exist or its year isn't 1900 to 2199 (the first date)",
             Refusal::Date(Blamed::Second) => "a date doesn't exist or its year isn't 1900 to 2199 (the second date)",
             Refusal::Days => "the end is before the start, or the day count is over 366",
             Refusal::Weights => "weights break their rule",
-            Refusal::Negative => "a posting, a refund or a given net total is negative",
+            Refusal::Negative => "a posting, a refund, a table's principal or a given net total is negative",
             Refusal::Room => "the lent output is too short",
             Refusal::Refund => "a refund is greater than the net total",
-            Refusal::Limit => "the result, the euro step or the new net total is over L",
+            Refusal::Limit => "the result, the euro step, a row of a table or the new net total is over L",
         }
     }
 

@@ -113,6 +113,33 @@ fn interest_over_days() {
 }
 
 #[test]
+fn compound_tables() {
+    let table = |a: Amount, rate, periods, room| {
+        let mut out = [777; 122];
+        let r = a.compound(rate, periods, &mut out[..room]);
+        (r, [out[0], out[1], out[2], out[3], out[4]])
+    };
+    assert_eq!(table(euros(10_000), 500, 3, 122), (Ok(()), [10_000, 10_500, 11_025, 11_576, 777]));
+    assert_eq!(table(euros(10_000), 500, 3, 4), (Ok(()), [10_000, 10_500, 11_025, 11_576, 777]));
+    assert_eq!(table(euros(3), 5_000, 2, 122), (Ok(()), [3, 5, 7, 777, 777]));
+    assert_eq!(table(euros(10_000), 500, 0, 1), (Ok(()), [10_000, 777, 777, 777, 777]));
+    assert_eq!(table(euros(10_000), 0, 120, 121), (Ok(()), [10_000; 5]));
+    for (a, rate, periods, room, refusal) in [
+        (euros(Amount::L / 2), 10_000, 2, 122, Refusal::Limit),
+        (euros(-1), 0, 121, 0, Refusal::Rate),
+        (euros(-1), 10_001, 0, 0, Refusal::Rate),
+        (euros(1), 0, u32::MAX, 122, Refusal::Rate),
+        (euros(-1), 500, 3, 0, Refusal::Negative),
+        (euros(Amount::L), 500, 3, 3, Refusal::Room),
+        (euros(i64::MIN), 10_001, 121, 0, Refusal::Magnitude),
+        (Amount::new(EUR, 7, 1), 0, 1, 122, Refusal::Scale),
+        (Amount::new(Currency(21), 2, 1), 0, 1, 122, Refusal::Unknown),
+    ] {
+        assert_eq!(table(a, rate, periods, room), (Err(refusal), [777; 5]));
+    }
+}
+
+#[test]
 fn prices() {
     let split = |net, tax, gross| Split { net: euros(net), tax: euros(tax), gross: euros(gross) };
     assert_eq!(euros(100).tax_as_gross(200_000, mode::HALF_UP), Ok(split(83, 17, 100)));

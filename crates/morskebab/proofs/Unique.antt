@@ -7,9 +7,11 @@ use Prim.Native.Nat.{ℕ}
 use lib.IntN.{ℤ}
 use lib.ListN.{length}
 use Rattle.rounding.proofs.Unique.{one-answer}
+use Rattle.whole.specs.Whole.{magnitudeOf}
 use Rattle.weights.specs.Lent.{outAfter}
 use Rattle.sharing.specs.Shared.{sharedSaid}
 use Rattle.vouchers.specs.Said.{vouchersSaid}
+use Rattle.compound.specs.Table.{tableSaid, listAfter}
 use Rattle.flat.specs.declared.MkbAmount.{MkbAmount}
 use Rattle.bulk.specs.Runs.{runSaid, payoutsAfter, numbersAfter}
 use Rattle.flat.specs.declared.MkbBook.{MkbBook}
@@ -35,6 +37,16 @@ Vouchers count weights out r left =
 pub one-vouchers : (count : ℤ) (weights out : List ℕ) (r s : ℕ) (left left′ : List ℕ)
     → Vouchers count weights out r left → Vouchers count weights out s left′ → (r ≡ s) × (left ≡ left′)
 one-vouchers count weights out r s left left′ p q = (one-answer (p .0) (q .0), one-answer (p .1) (q .1))
+
+-- what `mkb_compound` promises of its answer and of the list that it was lent
+abbrev pub Tables : MkbAmount → (rate periods : ℤ) (out : List ℤ) (r : ℕ) (left : List ℤ) → Type 0
+Tables principal rate periods out r left =
+    let said = tableSaid (amountFrom principal) (passed32 rate) (passed32 periods) (length out) in
+    (r ≡ refusalOf said) × (left ≡ listAfter (magnitudeOf (principal .coefficient)) (passed32 rate) said out)
+
+pub one-compound : (principal : MkbAmount) (rate periods : ℤ) (out : List ℤ) (r s : ℕ) (left left′ : List ℤ)
+    → Tables principal rate periods out r left → Tables principal rate periods out s left′ → (r ≡ s) × (left ≡ left′)
+one-compound principal rate periods out r s left left′ p q = (one-answer (p .0) (q .0), one-answer (p .1) (q .1))
 
 -- what `mkb_run` promises of its answer and of the places that it was lent, which are those after as many calls as the answer says were served
 pub record Ran (book : MkbBook) (refunds : List Bool) (coefficients : List ℤ) (payouts numbers : List ℕ) (r : MkbRan) (paid said : List ℕ) : Type 0 where

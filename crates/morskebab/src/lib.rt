@@ -6,4 +6,5 @@ mod days;
 mod prices;
 mod runs;
 mod shares;
+mod tables;
 mod versions;
