@@ -1,5 +1,5 @@
--- Every basis but 2 and 3 counts actual days, every basis but 1 has a year of 360; each counts none between equal dates, and no year is over
--- 365. Assumes nothing.
+-- Every basis but 2 and 3 counts actual days, every basis but 1 has a year of 360; each counts none between equal dates, and a year
+-- is 360 to 365 days. Assumes nothing.
 use mathlib.Core.Path.{_≡_, refl}
 use mathlib.Core.List.{List, [], _∷_}
 use Prim.Native.Nat.{ℕ, zero, suc, _≤_}
@@ -42,5 +42,6 @@ pub equal-dates : (basis : ℕ) (d : Date) → basisOf basis .count d d ≡ 0
 equal-dates basis d =
     every-basis (λ b. b .count d d ≡ 0) (actual-same d) (actual-same d, (actual-same d, (thirty-same american american-reads d, (thirty-same european european-reads d, tt)))) basis
 
-pub year-at-most : (basis : ℕ) → basisOf basis .year ≤ 365
-year-at-most = every-basis (λ b. b .year ≤ 365) (omega arith) (omega arith, (omega arith, (omega arith, (omega arith, tt))))
+pub year-within : (basis : ℕ) → (360 ≤ basisOf basis .year) × (basisOf basis .year ≤ 365)
+year-within =
+    every-basis (λ b. (360 ≤ b .year) × (b .year ≤ 365)) (omega arith) (omega arith, (omega arith, (omega arith, (omega arith, tt))))

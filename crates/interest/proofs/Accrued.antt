@@ -1,10 +1,10 @@
--- An interest by sign and magnitude, as the program computes it: where no row holds its factors are within their limits, so the
--- product fits, and what the program makes is what document 01 says of the principal. Assumes nothing.
+-- An interest by sign and magnitude, as the program computes it: where no row holds its factors are within their limits, so the leaf
+-- rounds their product, and what the program makes is what document 01 says of the principal. Assumes nothing.
 use mathlib.Core.Path.{_≡_, sym, _∙_, ap, ap₂}
 use mathlib.Core.Bool.{Bool}
 use mathlib.Core.List.{List}
 use Prim.Native.Nat.{ℕ, _*_, _≤_}
-use native.Mathlib.Nat.{mul-le-mul}
+use native.Mathlib.Nat.{mul-le-mul, mul-le-mul-left}
 use native.Mathlib.Omega.{arith}
 use borrow.Author.Tests.{ltb-false}
 use lib.IntN.{ℤ}
@@ -13,8 +13,14 @@ use Rattle.refusal.specs.declared.Checked.the-variants.{Passed, Refused}
 use Rattle.refusal.specs.Number.{numberOf, blamedOf}
 use Rattle.refusal.specs.Rows.{Said, gives, refuses, Row, firstRow, checkOf}
 use Rattle.refusal.proofs.Check.{passed, refused, behind, clear}
-use Rattle.whole.specs.Whole.{negative, magnitudeOf}
+use Rattle.whole.specs.Whole.{negative, magnitudeOf, signedOf, heldSigned}
+use Rattle.whole.proofs.Laws.{held-within}
 use Rattle.rounding.specs.declared.Rule.{Rule}
+use Rattle.rounding.specs.Leaf.{roundedMagnitude}
+use Rattle.rounding.specs.Product.{roundedProduct}
+use Rattle.rounding.proofs.Capped.{product-is}
+use Rattle.rounding.proofs.Exact.{exact-magnitude}
+use Rattle.rounding.proofs.Monotone.{monotone-magnitude}
 use Rattle.rounding.proofs.Value.{by-magnitude}
 use Rattle.currency.specs.declared.Currency.{Currency}
 use Rattle.amount.specs.declared.Amount.{Amount}
@@ -25,6 +31,7 @@ use Rattle.calendar.specs.DaysSaid.{daysRows, daysSaid}
 use Rattle.interest.specs.Interest.{lastRate, interestRows, interestOf, interestMade}
 use Rattle.interest.specs.Accrual.{frontRows, Accrues, accruedTo, interestByRule}
 use Rattle.refusal.proofs.Joined.{front-refused, same-value, let-pass, same-refused}
+use Rattle.calendar.proofs.Bases.{year-within}
 use Rattle.calendar.proofs.DaysRows.{Counted, counted}
 
 -- what a day count that was given tells: no row of it holds, and it is the basis's
@@ -52,8 +59,30 @@ module _ {m rate days : ℕ} (limits : Accrues m rate days) where
   pub points-fit : rate * days ≤ lastRate * 366
   points-fit = mul-le-mul (limits .points) (limits .days)
 
-  pub product-fits : m * (rate * days) ≤ largest * (lastRate * 366)
-  product-fits = mul-le-mul (limits .principal) points-fit
+  module _ (rule : Rule) (sign : Bool) (basis : ℕ) where
+    abbrev parts : ℕ
+    parts = 10000 * basisOf basis .year
+
+    -- 366 days are counted at most, and a year has 360 at least
+    pub at-most-twice : roundedMagnitude rule sign (m * (rate * days)) parts ≤ 2 * m
+    at-most-twice =
+        let year = year-within basis in
+        let covers : m * (rate * days) ≤ m * (2 * parts) = mul-le-mul-left m (omega (arith, points-fit)) in
+        omega (
+          arith,
+          monotone-magnitude rule parts (omega arith) sign (m * (rate * days)) (2 * m * parts) (omega arith),
+          exact-magnitude rule sign (2 * m) parts (omega arith),
+        )
+
+    -- so no cap of the leaf is met, and an i64 holds it
+    pub leaf : roundedProduct rule sign m (rate * days) parts ≡ roundedMagnitude rule sign (m * (rate * days)) parts
+    leaf =
+        let year = year-within basis in
+        product-is rule sign m (rate * days) parts (omega (arith, limits .principal)) (omega (arith, points-fit)) (omega arith) (omega arith)
+        (omega (arith, limits .principal, at-most-twice))
+
+    pub held : let n = roundedMagnitude rule sign (m * (rate * days)) parts in heldSigned sign n ≡ signedOf sign n
+    held = held-within sign (roundedMagnitude rule sign (m * (rate * days)) parts) (omega (arith, limits .principal, at-most-twice))
 
 -- document 01's interest, by the principal's sign and magnitude
 pub by-parts : (rule : Rule) (n : ℤ) (rate basis : ℕ) (start end : Date)

@@ -1,25 +1,17 @@
--- The factors are within their limits, so the leaf gives the rounded magnitude, which is at most their product and fits with its sign.
--- Assumes nothing.
+-- The factors are within their limits, so the leaf gives the rounded magnitude, which is at most twice the principal's and fits with its
+-- sign. Assumes nothing.
 use mathlib.Core.Path.{_∙_, ap}
-use Prim.Native.Nat.{ℕ, _*_, _<_}
+use Prim.Native.Nat.{ℕ, _*_}
 use native.Mathlib.Omega.{arith}
 use borrow.Author.Needs.{needs}
 use Rattle.whole.specs.Whole.{heldSigned}
 use Rattle.whole.proofs.Laws.{read-back}
 use Rattle.rounding.specs.Product.{roundedProduct}
-use Rattle.rounding.proofs.Bounds.{at-most}
-use Rattle.rounding.proofs.Capped.{product-is}
-use Rattle.rounding.proofs.Value.{held-rounded}
-use Rattle.calendar.specs.DayCount.{basisOf}
 use Rattle.interest.specs.Accrual.{accruedTo}
-use Rattle.calendar.proofs.Bases.{every-basis, year-at-most}
-use Rattle.interest.proofs.Accrued.{points-fit, product-fits}
+use Rattle.calendar.proofs.Bases.{year-within}
+use Rattle.interest.proofs.Accrued.{points-fit, leaf, held}
 use Rattle.interest.proofs.accrual.accrued.Statement.{statement}
 use Rattle.interest.proofs.accrual.accrued.Tie as tie
-
--- every basis has a year
-year-some : (basis : ℕ) → 0 < basisOf basis .year
-year-some = every-basis (λ b. 0 < b .year) (omega arith) (omega arith, (omega arith, (omega arith, (omega arith, tt))))
 
 mul-factor : tie.Need-mul-factor
 mul-factor c = omega (arith, points-fit (c .pre))
@@ -28,10 +20,10 @@ year-of-requires : tie.Need-year-of-requires
 year-of-requires c κs = search needs
 
 mul-round-product : tie.Need-mul-round-product
-mul-round-product c = omega (arith, c .year-of .ensures, year-at-most (c .before .args .basis))
+mul-round-product c = omega (arith, c .year-of .ensures, year-within (c .before .args .basis))
 
 cast-round-product : tie.Need-cast-round-product
-cast-round-product c = omega (arith, c .year-of .ensures, year-at-most (c .before .args .basis))
+cast-round-product c = omega (arith, c .year-of .ensures, year-within (c .before .args .basis))
 
 round-product-requires : tie.Need-round-product-requires
 round-product-requires c κs = search needs
@@ -44,18 +36,13 @@ unfolding accruedTo
 returns c =
     let s = c .before .before .before in
     let a = s .args in
-    let factor = a .rate * a .days in
-    let d = 10000 * basisOf (a .basis) .year in
-    let fits = product-fits (s .pre) in
     read-back (c .signed .result) (c .signed .ok)
     ∙ c .signed .ensures
     ∙ ap (heldSigned (a .negative))
     (c .before .round-product .ensures
-    ∙ ap (λ (x : ℕ). roundedProduct (a .rule) (a .negative) (a .m) factor (10000 * x)) (c .before .before .year-of .ensures)
-    ∙ product-is (a .rule) (a .negative) (a .m) factor d (omega (arith, s .pre .principal)) (omega (arith, points-fit (s .pre)))
-    (omega (arith, year-some (a .basis))) (omega (arith, year-at-most (a .basis)))
-    (omega (arith, fits, at-most (a .rule) (a .negative) (a .m * factor) d)))
-    ∙ held-rounded (a .rule) (a .negative) (a .m * factor) d (omega (arith, fits))
+    ∙ ap (λ (x : ℕ). roundedProduct (a .rule) (a .negative) (a .m) (a .rate * a .days) (10000 * x)) (c .before .before .year-of .ensures)
+    ∙ leaf (s .pre) (a .rule) (a .negative) (a .basis))
+    ∙ held (s .pre) (a .rule) (a .negative) (a .basis)
 
 pub accrued-spec : {M : Type 1} → statement M
 accrued-spec =
