@@ -200,7 +200,7 @@ CHECKS = (
     *test_programs.CHECKS,
     (asks.WRITTEN, fixed_cases_are_understood),
     (set(), test_lines.lines_of_asks),
-    (set(), test_lines.answers_have_the_right_form),
+    (set(), lambda: test_lines.answers_have_the_right_form(seeds=1)),
 )
 
 

@@ -241,12 +241,13 @@ def laws_of_sharing():
 
 
 def checks_of_asks():
-    """The asks are checked in programs of their own, in which they have landed: all, and each
-    alone."""
+    """The asks are checked in programs of their own, in which they have landed: all, each
+    alone, and some that meet."""
     command = [sys.executable, str(test_lines.HERE / "test_asks.py")]
+    some = [["1", "9"], ["1", "7", "10"], ["3", "11"], ["3", "9", "13"]]
     return sum(
         int(subprocess.run(command + landing, check=True, stdout=subprocess.PIPE).stdout)
-        for landing in [[]] + [[str(ask)] for ask in sorted(WRITTEN)]
+        for landing in [[]] + [[str(ask)] for ask in sorted(WRITTEN)] + some
     )
 
 

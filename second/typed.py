@@ -9,8 +9,6 @@ NOT_NUMBERS = (
     *(b"+5", b"-", b"--5", b"5-", b"1.0", b"1e3", b"0x10", b"1_0", b"x"),
     *(b"\t5", b"5\t", b"5\r", b"\x005", b"\xb2", b"\xd9\xa3"),
 )
-
-
 NO_CODES = (b"XXX", b"EURO", b"E", b"EU", b"Eur", b"ZZZ", b"A0", b"EUR,", b"Z\xff")
 NO_TEXTS = (
     *(b"-0", b"-0.00", b"00", b"01.50", b"-01", b".5", b"-.5", b"5.", b"+1", b"--1", b"1-"),
