@@ -2,6 +2,7 @@
 
 import io
 import pathlib
+import re
 import subprocess
 import sys
 import tempfile
@@ -9,9 +10,10 @@ import tempfile
 import asks
 from asks import landed
 from checks import holds, same
+from generate import generated
 from statement import VERSION, write_statements
 from statements import Statement, read_any, read_statement, size_of
-from test_lines import HERE
+from test_lines import HERE, reports
 from test_rerun import Failing
 from test_statements import written
 from view import write_views
@@ -111,6 +113,32 @@ def statements_with_reasons():
     same(statements_of(quarter), (0, file_of((0, records))))
 
 
+def paid_less_taken(report):
+    """What rerun's reports say of each place, in all books together, as coefficients."""
+    totals = [0] * 16
+    found = re.findall(r"^partner (\d+) weight \d+ paid (\S+) taken (\S+)", report, re.MULTILINE)
+    for place, paid, taken in found:
+        totals[int(place)] += int(paid.replace(".", "")) - int(taken.replace(".", ""))
+    return totals
+
+
+def statements_and_reports():
+    """Each book has its statement, and what the records come to is what rerun says was paid."""
+    for seed in range(5):
+        quarter = b"".join(generated(seed, 1200))
+        report, (_, data) = reports(quarter), statements_of(quarter)
+        books = len(re.findall(r"^book \S+ weights", report, re.MULTILINE))
+        status, lines = views_of(data)
+        same((status, len([line for line in lines if line.startswith("statement")])), (0, books))
+        totals = [0] * 16
+        for line in lines:
+            if line.startswith("record"):
+                place, coefficient = map(int, line.split()[1:3])
+                totals[place] += coefficient
+        same(totals, paid_less_taken(report))
+        holds(any(totals))
+
+
 def views_of_files():
     said = "statement version {} records 2 sum -3 currency 7"
     two = written(1, 7, [(15, 0, 4), (0, 0, -7)])
@@ -169,11 +197,13 @@ def memory_of_views():
     same(write_views(Reread(b"x", fails=True), io.BytesIO()), 3)
 
 
-def ran(program, *arguments, output=subprocess.PIPE):
-    """The status and the output of a command, in a program in which these asks have landed."""
+def ran(program, *arguments, output=subprocess.PIPE, before=":"):
+    """The status and the output of a command, in a program in which these asks have landed;
+    before it a shell's command."""
     code = f"import asks, command; asks.LANDED = frozenset({sorted(asks.LANDED)})\n"
     code += f"import {program}; command.end_with({program}.{program})"
-    command = [sys.executable, "-c", code, *map(str, arguments)]
+    shell = ["sh", "-c", before + '; exec "$0" "$@"', sys.executable, "-B", "-c", code]
+    command = shell + [str(argument) for argument in arguments]
     done = subprocess.run(command, cwd=HERE, stdout=output, stderr=subprocess.PIPE)
     return done.returncode, done.stdout
 
@@ -184,6 +214,8 @@ def commands_of_statement():
         quarter.write_bytes(b"open 0 2 1\npost 0 2 1\npost 0 2 -1\npost")
         same(ran("statement", quarter, out), (0, b""))
         same(out.read_bytes(), file_of((0, [(0, 0, 1)])))
+        no_room = {"before": "ulimit -f 0"}
+        same(ran("statement", quarter, pathlib.Path(folder) / "full", **no_room), (3, b""))
         quarter.write_bytes(b"")
         same(ran("statement", quarter, out), (3, b""))
         same(ran("statement", quarter, quarter), (3, b""))
@@ -193,7 +225,6 @@ def commands_of_statement():
             same(ran("statement", *arguments), (2, b""))
         same(ran("statement", folder + "/none", out), (3, b""))
         same(ran("statement", quarter, folder + "/none/out"), (3, b""))
-        same(ran("statement", quarter, "/dev/full"), (3, b""))
         holds(not out.exists())
         same((ran("statement", quarter, out), out.read_bytes()), ((0, b""), b""))
 
@@ -221,6 +252,7 @@ def commands_before_their_asks():
 CHECKS = (
     ({3}, statements_of_books),
     ({3}, statements_of_4000_records),
+    ({3}, statements_and_reports),
     ({3, 9}, statements_with_cards),
     ({3, 1}, statements_with_codes),
     ({3, 13}, statements_with_reasons),
