@@ -9,7 +9,7 @@ pub enum Blamed {
     Second,
 }
 
-// One case for each row of the table, in its order.
+// One case for each row of the table, and for those that document 02 adds, by number.
 pub enum Refusal {
     // 1: the mode isn't 0 to 6
     Mode,
@@ -37,6 +37,8 @@ pub enum Refusal {
     Refund,
     // 13: the result, the euro step or the new net total is over L
     Limit,
+    // 15: no net has the gross
+    NoNet,
 }
 
 // The answer of a check: nothing to refuse, or the first row that holds.
@@ -59,7 +61,7 @@ impl Blamed {
 
 impl Refusal {
     // The table's last number.
-    pub const LAST: u8 = 13;
+    pub const LAST: u8 = 15;
 
     // The table's number.
     pub fn number(self) -> u8
@@ -79,6 +81,7 @@ impl Refusal {
             Refusal::Room => 11,
             Refusal::Refund => 12,
             Refusal::Limit => 13,
+            Refusal::NoNet => 15,
         }
     }
 
@@ -100,6 +103,7 @@ impl Refusal {
             Refusal::Room => 0,
             Refusal::Refund => 0,
             Refusal::Limit => 0,
+            Refusal::NoNet => 0,
         }
     }
 }

@@ -15,6 +15,7 @@ pub mod Order
 pub mod Table
 pub mod Threshold
 pub mod Ties
+pub mod Undo
 pub mod Unique
 pub mod UpDown
 pub mod Value

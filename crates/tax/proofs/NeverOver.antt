@@ -1,11 +1,11 @@
--- From gross, net and tax are parts of a gross that is within L, so row 13 is never given: behind the rows 1 to 6 stands the value.
--- Assumes nothing.
-use mathlib.Core.Path.{_≡_, sym, _∙_}
+-- From gross, net and tax are parts of a gross that is within L, so row 13 is never given: behind the rows 1 to 6 stands the value. Nor is it
+-- given where a net is looked for. Assumes nothing.
+use mathlib.Core.Path.{_≡_, refl, sym, _∙_}
 use Prim.Native.Nat.{ℕ, _+_, _*_, _-_, _≤_}
 use native.Mathlib.Omega.{arith}
 use borrow.Author.Needs.{needs}
 use borrow.Author.Tests.{ltb-false}
-use Rattle.refusal.specs.Rows.{gives, refuses, firstRow}
+use Rattle.refusal.specs.Rows.{Said, gives, refuses, firstRow}
 use Rattle.refusal.proofs.Check.{Clear, clear}
 use Rattle.whole.specs.Whole.{negative, magnitudeOf}
 use Rattle.rounding.specs.declared.Rule.{Rule}
@@ -13,8 +13,9 @@ use Rattle.rounding.specs.Leaf.{roundedMagnitude}
 use Rattle.rounding.specs.Modes.{ruleOf}
 use Rattle.amount.specs.declared.Amount.{Amount}
 use Rattle.amount.specs.Amounts.{largest}
-use Rattle.tax.specs.Tax.{million, taxRows, fromGross, made, splitSaid, fromGrossSaid}
-use Rattle.tax.specs.Parts.{rowsTaken, rowsMade}
+use Rattle.tax.specs.declared.Split.{Split}
+use Rattle.tax.specs.Tax.{million, taxRows, rowsTaken, rowsMade, fromGross, made, splitSaid, fromGrossSaid}
+use Rattle.tax.specs.NetFor.{NetSaid, refused, found, none}
 use Rattle.tax.proofs.Bounds.{at-most-all}
 use Rattle.refusal.proofs.Joined.{let-pass, same-behind, not-given}
 use Rattle.tax.proofs.Value.{made-given, gross-split}
@@ -45,3 +46,14 @@ module _ (gross : Amount) (rate mode : ℕ) where
   never-over blamed e =
       not-given (fromGross (ruleOf mode) gross rate) 13 blamed (rowsTaken gross rate mode) (search needs)
       (sym from-gross-said ∙ e)
+
+  -- the net for a gross
+  pub net-never-over : (blamed : ℕ) → NetSaid gross rate mode (refuses 13 blamed) → ⊥
+  unfolding taxRows
+  net-never-over blamed allowed = go (refuses 13 blamed) allowed refl
+    where
+      go : (said : Said Split) → NetSaid gross rate mode said → said ≡ refuses 13 blamed → ⊥
+      go said (refused n b e) same =
+          let number : n ≡ 13 = cc in not-given gross 13 b (rowsTaken gross rate mode) (search needs) (rw number at e)
+      go said (found e net has) same = let z : _≡_ {A = ℕ} 0 1 = cc in omega arith
+      go said (none e never) same = let number : _≡_ {A = ℕ} 15 13 = cc in omega arith

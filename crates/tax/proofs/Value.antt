@@ -10,7 +10,8 @@ use lib.IntN.{ℤ, pos, _+ℤ_, _-ℤ_, _*ℤ_, negℤ-+ℤ, +ℤ-negℤ-cancel}
 use Rattle.refusal.specs.declared.Refusal.{Refusal}
 use Rattle.refusal.specs.declared.Refusal.the-variants.{Limit}
 use Rattle.refusal.specs.Number.{numberOf, blamedOf}
-use Rattle.refusal.specs.Rows.{Said, gives, refuses, Row, row, firstRow}
+use Rattle.refusal.specs.declared.Checked.the-variants.{Passed}
+use Rattle.refusal.specs.Rows.{Said, gives, refuses, Row, row, firstRow, checkOf}
 use Rattle.refusal.proofs.Check.{passed, clear}
 use Rattle.whole.specs.Whole.{negative, magnitudeOf, signedOf}
 use Rattle.whole.proofs.Laws.{sign-and-magnitude, magnitude-signed, signed-opposite}
@@ -25,8 +26,8 @@ use Rattle.rounding.proofs.Value.{by-magnitude}
 use Rattle.amount.specs.declared.Amount.{Amount}
 use Rattle.amount.specs.Amounts.{largest, overL}
 use Rattle.tax.specs.declared.Split.{Split}
-use Rattle.tax.specs.Tax.{million, taxRows, like, fromNet, fromGross, made, splitSaid, fromNetSaid, fromGrossSaid}
-use Rattle.tax.specs.Parts.{meansChoice, takenRows, ruleSaid, splitOf}
+use Rattle.tax.specs.Tax.{million, taxRows, takenRows, rowsTaken, like, fromNet, fromGross, made, splitSaid, fromNetSaid, fromGrossSaid}
+use Rattle.tax.specs.Parts.{meansChoice, ruleSaid, splitOf}
 use Rattle.tax.proofs.Bounds.{at-most-all}
 use Rattle.refusal.proofs.Joined.{same-value, let-pass, same-refused}
 
@@ -131,14 +132,26 @@ module _ {a : Amount} {rate mode : ℕ} {sign : Bool} {m : ℕ} {rule : Rule} (c
   has-rule : ruleSaid (a .scale) m (a .currency) rate mode ≡ gives rule
   has-rule = sym (call .said) ∙ ap meansChoice (call .chosen)
 
+  -- no row holds for what it takes, and its rule is the mode's
+  pub rows-passed : checkOf (rowsTaken a rate mode) ≡ Passed
+  unfolding ruleSaid
+  rows-passed = rw (sym (call .magnitudes)) (let-pass (ruleOf mode) rule (takenRows (a .scale) m (a .currency) rate mode) has-rule)
+
+  pub rule-is : ruleOf mode ≡ rule
+  unfolding ruleSaid
+  rule-is = same-value (ruleOf mode) rule (takenRows (a .scale) m (a .currency) rate mode) has-rule
+
   pub limits : (m ≤ largest) × (rate ≤ million)
   limits = within a rate mode m (call .magnitudes) rule has-rule
 
-  -- what the leaf gives: the tax is at most the amount, so no cap is met
+  -- what the leaf gives for the amount or a part of it: the tax is at most that, so no cap is met
+  pub leaf-of : (x : ℕ) → x ≤ m → (d : ℕ) → 0 < d → d ≤ 2 * million → rate ≤ d → roundedProduct rule sign x rate d ≡ roundedMagnitude rule sign (x * rate) d
+  leaf-of x part d some few covers =
+      product-is rule sign x rate d (omega (arith, limits .0)) (omega arith) some (omega arith)
+      (omega (arith, limits .0, at-most-all rule sign x rate d some covers))
+
   pub leaf : (d : ℕ) → 0 < d → d ≤ 2 * million → rate ≤ d → roundedProduct rule sign m rate d ≡ roundedMagnitude rule sign (m * rate) d
-  leaf d some few covers =
-      product-is rule sign m rate d (omega (arith, limits .0)) (omega arith) some (omega arith)
-      (omega (arith, limits .0, at-most-all rule sign m rate d some covers))
+  leaf = leaf-of m (omega arith)
 
   -- from net, where t is the tax's magnitude
   module _ (t : ℕ) (tax : t ≡ roundedMagnitude rule sign (m * rate) million) where

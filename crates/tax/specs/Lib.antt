@@ -1,2 +1,3 @@
 pub mod Tax
+pub mod NetFor
 pub mod Parts

@@ -1,4 +1,4 @@
--- Document 01, "Tax in and out of a price". Cited by `tax_from_net` and `tax_from_gross`. Assumes nothing.
+-- Document 01, "Tax in and out of a price". Cited by `tax_from_net`, `tax_from_gross` and `net_for_gross`. Assumes nothing.
 use mathlib.Core.Bool.{Bool}
 use mathlib.Core.List.{List, [], _∷_, _++_}
 use Prim.Native.Nat.{ℕ, _+_}
@@ -30,6 +30,13 @@ million = 1000000
 unfoldable pub taxRows : (scale m : ℕ) → Currency → (rate : ℕ) → List Row
 taxRows scale m currency rate = amountRows scale m currency ++ rateRows million rate
 
+-- rows 1 to 6 at what a call takes
+abbrev pub takenRows : (scale m : ℕ) → Currency → (rate mode : ℕ) → List Row
+takenRows scale m currency rate mode = row Mode (badMode mode) ∷ taxRows scale m currency rate
+
+abbrev pub rowsTaken : Amount → (rate mode : ℕ) → List Row
+rowsTaken a rate mode = takenRows (a .scale) (magnitudeOf (a .coefficient)) (a .currency) rate mode
+
 -- an amount with another coefficient
 abbrev pub like : Amount → ℤ → Amount
 like a n = record { currency = a .currency; scale = a .scale; coefficient = n }
@@ -47,20 +54,19 @@ fromGross rule gross r =
     record { net = like gross (gross .coefficient -ℤ tax); tax = like gross tax; gross = gross }
 
 -- row 13 at what is made
-abbrev pub made : Split → Said Split
-made s =
-    firstRow
-    (row Limit (overL (magnitudeOf (s .tax .coefficient)))
+abbrev pub rowsMade : Split → List Row
+rowsMade s =
+    row Limit (overL (magnitudeOf (s .tax .coefficient)))
     ∷ row Limit (overL (magnitudeOf (s .gross .coefficient)))
     ∷ row Limit (overL (magnitudeOf (s .net .coefficient)))
-    ∷ [])
-    (gives s)
+    ∷ []
+
+abbrev pub made : Split → Said Split
+made s = firstRow (rowsMade s) (gives s)
 
 -- the answer for an amount and a rate, by the way that the price is taken apart
 unfoldable pub splitSaid : (Rule → Amount → ℕ → Split) → Amount → (rate mode : ℕ) → Said Split
-splitSaid split a rate mode =
-    firstRow (row Mode (badMode mode) ∷ taxRows (a .scale) (magnitudeOf (a .coefficient)) (a .currency) rate)
-    (made (split (ruleOf mode) a rate))
+splitSaid split a rate mode = firstRow (rowsTaken a rate mode) (made (split (ruleOf mode) a rate))
 
 abbrev pub fromNetSaid : Amount → (rate mode : ℕ) → Said Split
 fromNetSaid = splitSaid fromNet

@@ -16,5 +16,6 @@ pub enum Taxed {
     Refused(Refusal),
 }
 
+pub use price::net_for_gross;
 pub use price::tax_from_gross;
 pub use price::tax_from_net;

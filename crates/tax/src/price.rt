@@ -19,6 +19,7 @@ ghost use Rattle.refusal.specs.Rows.{checkOf};
 ghost use Rattle.whole.specs.Whole.{signedOf};
 ghost use Rattle.amount.specs.Amounts.{largest};
 ghost use Rattle.tax.specs.Tax.{meansTax, taxRows, like, made, fromNetSaid, fromGrossSaid};
+ghost use Rattle.tax.specs.NetFor.{NetSaid};
 ghost use Rattle.tax.specs.Parts.{meansChoice, ruleSaid, splitOf};
 
 // A whole in parts per million, which is also the largest rate.
@@ -102,6 +103,28 @@ pub fn tax_from_gross(gross: Amount, rate: u32, mode: u8) -> Taxed
         Choice::Chosen(rule) => {
             let tax = round_product(rule, negative, m, rate as u64, MILLION + rate as u64);
             split_of(gross, negative, m - tax, tax)
+        }
+    }
+}
+
+// The price whose net has exactly this gross; or the refusal 1, 2, 3, 4 or 6, or 15 where no net has it. The tax that comes off the gross leaves the
+// only net that can: it does where the tax on it is the same.
+pub fn net_for_gross(gross: Amount, rate: u32, mode: u8) -> Taxed
+    ensures { λ r. ⌜ NetSaid gross rate mode (meansTax r) ⌝ }
+{
+    let negative = is_negative(gross.coefficient);
+    let m = magnitude(gross.coefficient);
+    match rule_for(gross.scale, m, gross.currency, rate, mode) {
+        Choice::Refused(refusal) => Taxed::Refused(refusal),
+        Choice::Chosen(rule) => {
+            let off = round_product(rule, negative, m, rate as u64, MILLION + rate as u64);
+            let net = m - off;
+            let on = round_product(rule, negative, net, rate as u64, MILLION);
+            if on == off {
+                split_of(gross, negative, net, off)
+            } else {
+                Taxed::Refused(Refusal::NoNet)
+            }
         }
     }
 }
