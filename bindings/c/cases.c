@@ -134,6 +134,14 @@ static void tax(void)
     split_refused("rate 1,000,001", mkb_tax_from_net(money(EUR, 2, 2), 1000001, MKB_HALF_UP), MKB_RATE);
     split_refused("gross over L", mkb_tax_from_net(money(EUR, 2, MKB_L), 1000000, MKB_HALF_UP), MKB_LIMIT);
     split_refused("mode 7", mkb_tax_from_gross(money(21, 9, 2), 1000001, 7), MKB_MODE);
+    split_is("the net for 0.04", mkb_net_for(money(EUR, 2, 4), 200000, MKB_HALF_UP), 3, 1, 4);
+    split_is("the net for -0.04", mkb_net_for(money(EUR, 2, -4), 200000, MKB_HALF_UP), -3, -1, -4);
+    split_refused("no net has 0.03", mkb_net_for(money(EUR, 2, 3), 200000, MKB_HALF_UP), MKB_NO_NET);
+    split_is("the net for L at rate 0", mkb_net_for(money(EUR, 2, MKB_L), 0, MKB_HALF_UP), MKB_L, 0, MKB_L);
+    split_refused("a gross over L", mkb_net_for(money(EUR, 2, MKB_L + 1), 1000001, MKB_HALF_UP), MKB_MAGNITUDE);
+    split_refused("the net at rate 1,000,001", mkb_net_for(money(EUR, 2, 3), 1000001, MKB_HALF_UP), MKB_RATE);
+    split_refused("the net at rate -1", mkb_net_for(money(EUR, 2, 3), -1, MKB_HALF_UP), MKB_RATE);
+    split_refused("the net by mode 7", mkb_net_for(money(21, 9, 2), 1000001, 7), MKB_MODE);
 }
 
 /* a sharing into a lent output of `room` places whose every place held 777 */

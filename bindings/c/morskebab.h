@@ -23,7 +23,7 @@ extern "C" {
 #endif
 
 /* 10,000 x major + 100 x minor + patch of this header; mkb_version() is that of the library which is linked */
-#define MKB_VERSION UINT32_C(10200)
+#define MKB_VERSION UINT32_C(10300)
 
 /* Document 01's table: a number is given exactly when its row holds for something that the call takes or makes and no smaller row does. */
 enum mkb_refusal {
@@ -40,7 +40,8 @@ enum mkb_refusal {
     MKB_NEGATIVE = 10, /* a posting, a refund, a table's principal or a given net total is negative */
     MKB_ROOM = 11,     /* the lent output is too short */
     MKB_REFUND = 12,   /* a refund is greater than the net total */
-    MKB_LIMIT = 13     /* the result, the euro step, a row of a table or the new net total is over L */
+    MKB_LIMIT = 13,    /* the result, the euro step, a row of a table or the new net total is over L */
+    MKB_NO_NET = 15    /* no net has the gross */
 };
 
 /* away from zero, toward zero, toward the greater, toward the lesser; to the nearest, a half away from zero, toward zero, to the even */
@@ -161,6 +162,9 @@ uint8_t mkb_compound(mkb_amount principal, int64_t rate, int64_t periods, int64_
 mkb_split mkb_tax_from_net(mkb_amount net, int64_t rate, int64_t mode);
 /* tax = gross x rate / (1,000,000 + rate) rounded by the mode, net = gross - tax: refusals 1, 2, 3, 4, 6 */
 mkb_split mkb_tax_from_gross(mkb_amount gross, int64_t rate, int64_t mode);
+
+/* the price of the only net that has this gross by mkb_tax_from_net: refusals 1, 2, 3, 4, 6, and 15 where no net has it */
+mkb_split mkb_net_for(mkb_amount gross, int64_t rate, int64_t mode);
 
 /* shares by largest remainder into the first `count` places of out, the others untouched; a refusal writes nothing; 0, or 2, 3, 4, 9, 11 */
 uint8_t mkb_share(mkb_amount a, const uint32_t *weights, size_t count, int64_t *out, size_t room);

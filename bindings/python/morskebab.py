@@ -221,6 +221,10 @@ class Amount:
         """Tax = gross x rate / (1,000,000 + rate) rounded by the mode, net = gross - tax: refusals 1, 2, 3, 4, 6."""
         return Split._of(_accepted(_library.mkb_tax_from_gross(self._c(), whole(c_int64, "rate", rate), whole(c_int64, "mode", mode))))
 
+    def net_for(self, rate: int, mode: int) -> Split:
+        """The price of the only net that has this gross: refusals 1, 2, 3, 4, 6, and 15 where no net has it."""
+        return Split._of(_accepted(_library.mkb_net_for(self._c(), whole(c_int64, "rate", rate), whole(c_int64, "mode", mode))))
+
     def share(self, weights: Sequence[int]) -> tuple[int, ...]:
         """The shares' coefficients by largest remainder, one for each weight: refusals 2, 3, 4, 9."""
         lent, count = as_list(c_uint32, "weights", weights)

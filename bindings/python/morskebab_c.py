@@ -6,7 +6,7 @@ from ctypes import POINTER, Structure, c_bool, c_int8, c_int32, c_int64, c_size_
 
 PARTNERS = 16
 # MKB_VERSION: 10,000 x major + 100 x minor + patch
-VERSION = 10200
+VERSION = 10300
 
 
 class CAmount(Structure):
@@ -62,6 +62,7 @@ FUNCTIONS = {
     "mkb_compound": (c_uint8, CAmount, c_int64, c_int64, *_lent(c_int64)),
     "mkb_tax_from_net": (CSplit, CAmount, c_int64, c_int64),
     "mkb_tax_from_gross": (CSplit, CAmount, c_int64, c_int64),
+    "mkb_net_for": (CSplit, CAmount, c_int64, c_int64),
     "mkb_share": (c_uint8, CAmount, *_lent(c_uint32), *_lent(c_int64)),
     "mkb_vouchers": (c_uint8, c_int64, *_lent(c_uint32), *_lent(c_uint32)),
     "mkb_open": (COpened, c_int64, *_lent(c_uint32)),

@@ -20,6 +20,7 @@ REASONS = {
     11: "the lent output is too short",
     12: "a refund is greater than the net total",
     13: "the result, the euro step, a row of a table or the new net total is over L",
+    15: "no net has the gross",
 }
 
 

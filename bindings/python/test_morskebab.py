@@ -206,6 +206,11 @@ def prices():
     same(euros(2).tax_as_net(200000, HALF_UP).gross, euros(2))
     refused(6, lambda: euros(2).tax_as_net(1000001, HALF_UP))
     refused(13, lambda: euros(L).tax_as_net(1000000, HALF_UP))
+    same(euros(4).net_for(200000, HALF_UP), Split(euros(3), euros(1), euros(4)))
+    same(euros(-4).net_for(200000, HALF_UP), Split(euros(-3), euros(-1), euros(-4)))
+    refused(15, lambda: euros(3).net_for(200000, HALF_UP))
+    refused(6, lambda: euros(3).net_for(1000001, HALF_UP))
+    refused(3, lambda: euros(L + 1).net_for(1000001, HALF_UP))
 
 
 def shares():
@@ -305,7 +310,7 @@ def processes():
 
 def versions():
     header = (pathlib.Path(__file__).parent.parent / "c" / "morskebab.h").read_text()
-    same((morskebab.__version__, morskebab.VERSION), ("1.2.0", int(re.search(r"#define MKB_VERSION UINT32_C\((\d+)\)", header)[1])))
+    same((morskebab.__version__, morskebab.VERSION), ("1.3.0", int(re.search(r"#define MKB_VERSION UINT32_C\((\d+)\)", header)[1])))
 
 
 def main():

@@ -120,6 +120,7 @@ extern "C" {
     pub fn mkb_compound(principal: Amount, rate: i64, periods: i64, out: *mut i64, room: usize) -> u8;
     pub fn mkb_tax_from_net(net: Amount, rate: i64, mode: i64) -> Split;
     pub fn mkb_tax_from_gross(gross: Amount, rate: i64, mode: i64) -> Split;
+    pub fn mkb_net_for(gross: Amount, rate: i64, mode: i64) -> Split;
     pub fn mkb_share(a: Amount, weights: *const u32, count: usize, out: *mut i64, room: usize) -> u8;
     pub fn mkb_vouchers(vouchers: i64, weights: *const u32, count: usize, out: *mut u32, room: usize) -> u8;
     pub fn mkb_open(currency: i64, weights: *const u32, count: usize) -> Opened;

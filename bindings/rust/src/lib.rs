@@ -183,6 +183,11 @@ impl Amount {
         unsafe { ffi::mkb_tax_from_gross(self.into(), rate.into(), mode.into()) }.into()
     }
 
+    /// The price of the only net that has this gross: refusals 1, 2, 3, 4, 6, and 15 where no net has it.
+    pub fn net_for(self, rate: u32, mode: u8) -> Result<Split, Refusal> {
+        unsafe { ffi::mkb_net_for(self.into(), rate.into(), mode.into()) }.into()
+    }
+
     /// The shares by largest remainder into the first places of `out`, as many as weights; the others, and every place where the call is
     /// refused, stay as they stood: refusals 2, 3, 4, 9, 11.
     pub fn share(self, weights: &[u32], out: &mut [i64]) -> Result<(), Refusal> {

@@ -37,6 +37,8 @@ pub enum Refusal {
     Refund,
     /// 13: the result, the euro step, a row of a table or the new net total is over L
     Limit,
+    /// 15: no net has the gross
+    NoNet,
 }
 
 impl Refusal {
@@ -56,6 +58,7 @@ impl Refusal {
             Refusal::Room => 11,
             Refusal::Refund => 12,
             Refusal::Limit => 13,
+            Refusal::NoNet => 15,
         }
     }
 
@@ -76,6 +79,7 @@ impl Refusal {
             Refusal::Room => "the lent output is too short",
             Refusal::Refund => "a refund is greater than the net total",
             Refusal::Limit => "the result, the euro step, a row of a table or the new net total is over L",
+            Refusal::NoNet => "no net has the gross",
         }
     }
 
@@ -97,6 +101,7 @@ impl Refusal {
             11 => Refusal::Room,
             12 => Refusal::Refund,
             13 => Refusal::Limit,
+            15 => Refusal::NoNet,
             other => panic!("the archive answered with {other}, which the table doesn't have"),
         })
     }

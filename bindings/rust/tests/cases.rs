@@ -146,6 +146,10 @@ fn prices() {
     assert_eq!(euros(3).tax_as_gross(200_000, mode::HALF_UP), Ok(split(2, 1, 3)));
     assert_eq!(euros(2).tax_as_net(200_000, mode::HALF_UP), Ok(split(2, 0, 2)));
     assert_eq!(euros(2).tax_as_net(1_000_001, mode::HALF_UP), Err(Refusal::Rate));
+    assert_eq!(euros(4).net_for(200_000, mode::HALF_UP), Ok(split(3, 1, 4)));
+    assert_eq!(euros(-4).net_for(200_000, mode::HALF_UP), Ok(split(-3, -1, -4)));
+    assert_eq!(euros(3).net_for(200_000, mode::HALF_UP), Err(Refusal::NoNet));
+    assert_eq!(euros(3).net_for(1_000_001, mode::HALF_UP), Err(Refusal::Rate));
 }
 
 #[test]

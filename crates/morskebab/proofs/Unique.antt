@@ -1,5 +1,5 @@
--- Every promise of the face is an equation: the answer is a term over what C gave, and so is every lent place. Two answers that such a promise
--- allows are equal, and so are the lent places that they leave. Assumes nothing.
+-- Every promise of the face but that of `mkb_net_for` is an equation: the answer is a term over what C gave, and so is every lent place. Two
+-- answers that a promise allows are equal, and so are the lent places that they leave. Assumes nothing.
 use mathlib.Core.Path.{_≡_, sym, _∙_, ap}
 use mathlib.Core.Bool.{Bool}
 use mathlib.Core.List.{List}
@@ -12,13 +12,24 @@ use Rattle.weights.specs.Lent.{outAfter}
 use Rattle.sharing.specs.Shared.{sharedSaid}
 use Rattle.vouchers.specs.Said.{vouchersSaid}
 use Rattle.compound.specs.Table.{tableSaid, listAfter}
+use Rattle.tax.specs.declared.Taxed.{Taxed}
+use Rattle.tax.specs.Tax.{meansTax}
+use Rattle.tax.proofs.Unique.{one-net-for-gross}
 use Rattle.flat.specs.declared.MkbAmount.{MkbAmount}
+use Rattle.flat.specs.declared.MkbSplit.{MkbSplit}
 use Rattle.bulk.specs.Runs.{runSaid, payoutsAfter, numbersAfter}
 use Rattle.flat.specs.declared.MkbBook.{MkbBook}
 use Rattle.flat.specs.declared.MkbRan.{MkbRan}
-use Rattle.flat.specs.Given.{amountFrom, bookFrom, passed32}
-use Rattle.flat.specs.Answers.{refusalOf}
+use Rattle.flat.specs.Given.{amountFrom, bookFrom, passed8, passed32}
+use Rattle.flat.specs.Answers.{refusalOf, splitOf}
 use Rattle.flat.specs.Books.{ranOf}
+use Rattle.morskebab.specs.NetAnswer.{NetAnswer}
+
+-- `mkb_net_for` promises what may be said of the gross, and only one thing may
+pub one-net-for : (gross : MkbAmount) (rate mode : ℤ) (r s : MkbSplit) → NetAnswer gross rate mode r → NetAnswer gross rate mode s → r ≡ s
+one-net-for gross rate mode r s p q =
+    let same = one-net-for-gross (amountFrom gross) (passed32 rate) (passed8 mode) (p .answer) (q .answer) (p .said) (q .said) in
+    p .is ∙ (ap (λ (t : Taxed). splitOf (meansTax t)) same ∙ sym (q .is))
 
 -- what `mkb_share` promises of its answer and of the output that it was lent
 abbrev pub Shares : MkbAmount → (weights : List ℕ) (out : List ℤ) (r : ℕ) (left : List ℤ) → Type 0

@@ -1,1 +1,2 @@
+pub mod NetAnswer
 pub mod Version
