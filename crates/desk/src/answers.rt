@@ -1,20 +1,33 @@
-// The parts of an answer, each put at a place; the place behind it.
+// The answers, each put at a place; the place behind it.
 use amount::Amount;
+use amount::Order;
 use book::Book;
+use console::put_named;
 use lines::put_bytes;
 use lines::put_number;
 use refusal::Refusal;
 use whole::is_negative;
 use whole::magnitude;
 
-pub(crate) fn put_not_understood(out: &mut [u8], at: usize) -> usize {
+// The answer of a call that needs no book.
+pub enum Reply {
+    Unknown,
+    Refused(Refusal),
+    Whole(i64),
+    Two(i64, i64),
+    Value(Amount),
+    // an amount, and the days that it is for
+    Interest(Amount, u32),
+    Ordered(Order),
+}
+
+pub(crate) fn put_unknown(out: &mut [u8], at: usize) -> usize {
     put_bytes(out, at, b"?")
 }
 
 // The refusal's number, and which of two dates it blames.
 pub(crate) fn put_refused(out: &mut [u8], at: usize, refusal: Refusal) -> usize {
-    let behind = put_bytes(out, at, b"! ");
-    let behind = put_number(out, behind, false, refusal.number() as u64);
+    let behind = put_named(out, at, b"! ", refusal.number() as u64);
     match refusal.blamed() {
         1 => put_bytes(out, behind, b" first"),
         2 => put_bytes(out, behind, b" second"),
@@ -22,26 +35,46 @@ pub(crate) fn put_refused(out: &mut [u8], at: usize, refusal: Refusal) -> usize 
     }
 }
 
-pub(crate) fn put_accepted(out: &mut [u8], at: usize) -> usize {
-    put_bytes(out, at, b"=")
-}
-
 // A space and the number.
-pub(crate) fn put_count(out: &mut [u8], at: usize, m: u64) -> usize {
-    let behind = put_bytes(out, at, b" ");
-    put_number(out, behind, false, m)
-}
-
 pub(crate) fn put_whole(out: &mut [u8], at: usize, n: i64) -> usize {
     let behind = put_bytes(out, at, b" ");
     put_number(out, behind, is_negative(n), magnitude(n))
 }
 
-pub(crate) fn put_amount(out: &mut [u8], at: usize, amount: Amount) -> usize {
-    let behind = put_accepted(out, at);
-    let behind = put_count(out, behind, amount.currency.0 as u64);
-    let behind = put_count(out, behind, amount.scale as u64);
+fn put_amount(out: &mut [u8], at: usize, amount: Amount) -> usize {
+    let behind = put_named(out, at, b"= ", amount.currency.0 as u64);
+    let behind = put_named(out, behind, b" ", amount.scale as u64);
     put_whole(out, behind, amount.coefficient)
+}
+
+fn put_order(out: &mut [u8], at: usize, order: Order) -> usize {
+    match order {
+        Order::Less => put_bytes(out, at, b"= less"),
+        Order::Equal => put_bytes(out, at, b"= equal"),
+        Order::Greater => put_bytes(out, at, b"= greater"),
+    }
+}
+
+pub(crate) fn put_reply(out: &mut [u8], at: usize, reply: Reply) -> usize {
+    match reply {
+        Reply::Unknown => put_unknown(out, at),
+        Reply::Refused(refusal) => put_refused(out, at, refusal),
+        Reply::Whole(n) => {
+            let behind = put_bytes(out, at, b"=");
+            put_whole(out, behind, n)
+        },
+        Reply::Two(one, other) => {
+            let behind = put_bytes(out, at, b"=");
+            let behind = put_whole(out, behind, one);
+            put_whole(out, behind, other)
+        },
+        Reply::Value(amount) => put_amount(out, at, amount),
+        Reply::Interest(amount, days) => {
+            let behind = put_amount(out, at, amount);
+            put_named(out, behind, b" ", days as u64)
+        },
+        Reply::Ordered(order) => put_order(out, at, order),
+    }
 }
 
 // One number for each of a book's places.
@@ -49,7 +82,7 @@ pub(crate) fn put_places(out: &mut [u8], at: usize, numbers: [u64; Book::PARTNER
     let mut behind = at;
     let mut i = 0;
     while i < Book::PARTNERS {
-        behind = put_count(out, behind, numbers[i]);
+        behind = put_named(out, behind, b" ", numbers[i]);
         i += 1;
     }
     behind
@@ -57,7 +90,7 @@ pub(crate) fn put_places(out: &mut [u8], at: usize, numbers: [u64; Book::PARTNER
 
 // The first of the shares, as many as are asked for.
 pub(crate) fn put_shares(out: &mut [u8], at: usize, shares: &[i64], count: usize) -> usize {
-    let mut behind = put_accepted(out, at);
+    let mut behind = put_bytes(out, at, b"=");
     let mut i = 0;
     while i < count {
         if shares.len() <= i {

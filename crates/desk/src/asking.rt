@@ -1,42 +1,46 @@
 // One line and its answer.
-use crate::answers::put_not_understood;
+use crate::answers::Reply;
+use crate::answers::put_reply;
+use crate::answers::put_unknown;
 use crate::books::Answered;
 use crate::books::open;
-use crate::books::post;
-use crate::books::refund;
-use crate::books::totals;
-use crate::calls::converted;
+use crate::books::put_moved;
+use crate::books::totals_of;
+use crate::calls::by_two;
+use crate::calls::convert_to;
 use crate::calls::interest_of;
-use crate::calls::negate;
-use crate::calls::order_of;
+use crate::calls::quotient_of;
 use crate::calls::rescale;
-use crate::calls::round;
 use crate::calls::share_of;
-use crate::calls::sum_of;
-use crate::calls::tax_gross;
-use crate::calls::tax_net;
-use crate::verbs::Verb;
-use crate::verbs::takes;
-use crate::verbs::verb_of;
+use crate::calls::tax_of;
 use book::Book;
+use console::Verb;
+use console::takes;
+use console::verb_of;
 use intake::Given;
+use intake::amount_at;
+use intake::asks_nothing;
 use intake::next_word;
 use intake::read_numbers;
 use lines::put_bytes;
 
+// The numbers of a line that are kept: an amount and one weight more than a sharing takes, which is more than any other call takes.
+const NUMBERS: usize = 68;
+
 // A call that needs no book and takes a fixed count of numbers, which are there.
-fn call(verb: Verb, signs: &[bool], values: &[u64], out: &mut [u8], at: usize) -> usize {
+fn call(verb: Verb, signs: &[bool], values: &[u64]) -> Reply {
     match verb {
-        Verb::Round => round(signs, values, out, at),
-        Verb::Sum => sum_of(signs, values, out, at),
-        Verb::Order => order_of(signs, values, out, at),
-        Verb::Negate => negate(signs, values, out, at),
-        Verb::Rescale => rescale(signs, values, out, at),
-        Verb::Convert => converted(signs, values, out, at),
-        Verb::Interest => interest_of(signs, values, out, at),
-        Verb::TaxNet => tax_net(signs, values, out, at),
-        Verb::TaxGross => tax_gross(signs, values, out, at),
-        _ => put_not_understood(out, at),
+        Verb::Round => quotient_of(signs, values),
+        Verb::Sum | Verb::Order | Verb::Negate => by_two(
+            verb,
+            amount_at(signs, values, 0),
+            amount_at(signs, values, 3),
+        ),
+        Verb::Rescale => rescale(signs, values),
+        Verb::Convert => convert_to(signs, values),
+        Verb::Interest => interest_of(signs, values),
+        Verb::TaxNet | Verb::TaxGross => tax_of(verb, signs, values),
+        _ => Reply::Unknown,
     }
 }
 
@@ -47,54 +51,29 @@ fn ask(
     book: Book,
     signs: &[bool],
     values: &[u64],
-    weights: &mut [u32],
     out: &mut [u8],
     at: usize,
 ) -> Answered {
-    if !takes(verb, count) {
-        return Answered {
-            at: put_not_understood(out, at),
-            book,
-        };
-    }
+    let amount = amount_at(signs, values, 0);
     match verb {
-        Verb::Open => open(signs, values, count, weights, out, at),
-        Verb::Post => post(book, signs, values, out, at),
-        Verb::Refund => refund(book, signs, values, out, at),
-        Verb::Totals => Answered {
-            at: totals(book, out, at),
-            book,
-        },
+        Verb::Open => open(signs, values, count, out, at),
+        Verb::Post => put_moved(out, at, book.post(amount)),
+        Verb::Refund => put_moved(out, at, book.refund(amount)),
+        Verb::Totals => put_moved(out, at, totals_of(book)),
         Verb::Share => Answered {
-            at: share_of(signs, values, count, weights, out, at),
+            at: share_of(amount, signs, values, count, out, at),
             book,
         },
         _ => Answered {
-            at: call(verb, signs, values, out, at),
+            at: put_reply(out, at, call(verb, signs, values)),
             book,
         },
     }
 }
 
-// Empty lines and comments are copied.
-fn is_copied(line: &[u8]) -> bool {
-    if line.len() == 0 {
-        return true;
-    }
-    line[0] == b'#'
-}
-
 // The answer to a line, without its newline.
-pub(crate) fn answer(
-    line: &[u8],
-    book: Book,
-    signs: &mut [bool],
-    values: &mut [u64],
-    weights: &mut [u32],
-    out: &mut [u8],
-    at: usize,
-) -> Answered {
-    if is_copied(line) {
+pub(crate) fn answer(line: &[u8], book: Book, out: &mut [u8], at: usize) -> Answered {
+    if asks_nothing(line) {
         return Answered {
             at: put_bytes(out, at, line),
             book,
@@ -104,11 +83,15 @@ pub(crate) fn answer(
     let start = word.start;
     let end = word.end;
     let verb = verb_of(&line[start..end]);
-    match read_numbers(line, end, signs, values) {
-        Given::Others => Answered {
-            at: put_not_understood(out, at),
-            book,
-        },
-        Given::Numbers(count) => ask(verb, count, book, signs, values, weights, out, at),
+    let mut signs = [false; NUMBERS];
+    let mut values = [0u64; NUMBERS];
+    if let Given::Numbers(count) = read_numbers(line, end, &mut signs, &mut values) {
+        if takes(verb, count) {
+            return ask(verb, count, book, &signs, &values, out, at);
+        }
+    }
+    Answered {
+        at: put_unknown(out, at),
+        book,
     }
 }

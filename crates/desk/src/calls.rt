@@ -1,17 +1,14 @@
-// The calls that need no book: each takes its numbers, calls the library and puts the answer at a place.
-use crate::answers::put_accepted;
-use crate::answers::put_amount;
-use crate::answers::put_count;
+// The calls that need no book: each takes its numbers and calls the library.
+use crate::answers::Reply;
 use crate::answers::put_refused;
 use crate::answers::put_shares;
-use crate::answers::put_whole;
 use amount::Amount;
 use amount::Answer;
-use amount::Order;
 use amount::Ordered;
 use calendar::Date;
 use calendar::DayCount;
 use calendar::day_count;
+use console::Verb;
 use currency::Currency;
 use euro::convert;
 use intake::amount_at;
@@ -21,7 +18,6 @@ use intake::u8_at;
 use intake::u16_at;
 use intake::u32_at;
 use intake::u64_at;
-use lines::put_bytes;
 use refusal::Checked;
 use rounding::Quotient;
 use rounding::plain_quotient;
@@ -31,73 +27,54 @@ use tax::tax_from_gross;
 use tax::tax_from_net;
 ghost use Prim.Native.Nat.{_+_, _<_, _^_};
 
-pub(crate) fn round(signs: &[bool], values: &[u64], out: &mut [u8], at: usize) -> usize {
+// The library takes at most so many weights, and refuses one more.
+const MOST: usize = 64;
+
+const WEIGHTS: usize = MOST + 1;
+
+pub(crate) fn quotient_of(signs: &[bool], values: &[u64]) -> Reply {
     let n = i64_at(signs, values, 1);
     let d = u64_at(signs, values, 2);
     match plain_quotient(u8_at(signs, values, 0), n, d) {
-        Quotient::Refused(refusal) => put_refused(out, at, refusal),
-        Quotient::Value(x) => {
-            let behind = put_accepted(out, at);
-            put_whole(out, behind, x)
-        },
+        Quotient::Refused(refusal) => Reply::Refused(refusal),
+        Quotient::Value(x) => Reply::Whole(x),
     }
 }
 
-fn put_answer(out: &mut [u8], at: usize, answer: Answer) -> usize {
+fn reply_of(answer: Answer) -> Reply {
     match answer {
-        Answer::Refused(refusal) => put_refused(out, at, refusal),
-        Answer::Value(amount) => put_amount(out, at, amount),
+        Answer::Refused(refusal) => Reply::Refused(refusal),
+        Answer::Value(amount) => Reply::Value(amount),
     }
 }
 
-pub(crate) fn sum_of(signs: &[bool], values: &[u64], out: &mut [u8], at: usize) -> usize {
-    let one = amount_at(signs, values, 0);
-    let other = amount_at(signs, values, 3);
-    put_answer(out, at, one.sum(other))
-}
-
-fn put_order(out: &mut [u8], at: usize, order: Order) -> usize {
-    match order {
-        Order::Less => put_bytes(out, at, b"= less"),
-        Order::Equal => put_bytes(out, at, b"= equal"),
-        Order::Greater => put_bytes(out, at, b"= greater"),
-    }
-}
-
-pub(crate) fn order_of(signs: &[bool], values: &[u64], out: &mut [u8], at: usize) -> usize {
-    let one = amount_at(signs, values, 0);
-    let other = amount_at(signs, values, 3);
+fn order_of(one: Amount, other: Amount) -> Reply {
     match one.order(other) {
-        Ordered::Refused(refusal) => put_refused(out, at, refusal),
-        Ordered::Value(order) => put_order(out, at, order),
+        Ordered::Refused(refusal) => Reply::Refused(refusal),
+        Ordered::Value(order) => Reply::Ordered(order),
     }
 }
 
-pub(crate) fn negate(signs: &[bool], values: &[u64], out: &mut [u8], at: usize) -> usize {
-    let amount = amount_at(signs, values, 0);
-    put_answer(out, at, amount.negate())
+// The calls of one amount, or of two.
+pub(crate) fn by_two(verb: Verb, one: Amount, other: Amount) -> Reply {
+    match verb {
+        Verb::Sum => reply_of(one.sum(other)),
+        Verb::Order => order_of(one, other),
+        _ => reply_of(one.negate()),
+    }
 }
 
-pub(crate) fn rescale(signs: &[bool], values: &[u64], out: &mut [u8], at: usize) -> usize {
+pub(crate) fn rescale(signs: &[bool], values: &[u64]) -> Reply {
     let amount = amount_at(signs, values, 0);
     let scale = u8_at(signs, values, 3);
     let mode = u8_at(signs, values, 4);
-    put_answer(out, at, amount.rescale(scale, mode))
+    reply_of(amount.rescale(scale, mode))
 }
 
-pub(crate) fn converted(signs: &[bool], values: &[u64], out: &mut [u8], at: usize) -> usize {
+pub(crate) fn convert_to(signs: &[bool], values: &[u64]) -> Reply {
     let amount = amount_at(signs, values, 0);
     let to = Currency(u8_at(signs, values, 3));
-    put_answer(out, at, convert(amount, to))
-}
-
-// The interest, and the days that it is for: they are counted once the interest is accepted, so no refusal is met here.
-fn put_interest(out: &mut [u8], at: usize, amount: Amount, days: DayCount) -> usize {
-    let behind = put_amount(out, at, amount);
-    match days {
-        DayCount::Refused(_) => behind,
-        DayCount::Days(count) => put_count(out, behind, count as u64),
-    }
+    reply_of(convert(amount, to))
 }
 
 fn date_at(signs: &[bool], values: &[u64], place: usize) -> Date
@@ -110,7 +87,8 @@ fn date_at(signs: &[bool], values: &[u64], place: usize) -> Date
     }
 }
 
-pub(crate) fn interest_of(signs: &[bool], values: &[u64], out: &mut [u8], at: usize) -> usize {
+// The interest, and the days that it is for: they are counted once the interest is accepted, so that no refusal is met there.
+pub(crate) fn interest_of(signs: &[bool], values: &[u64]) -> Reply {
     let principal = amount_at(signs, values, 0);
     let rate = u32_at(signs, values, 3);
     let basis = u8_at(signs, values, 4);
@@ -118,45 +96,42 @@ pub(crate) fn interest_of(signs: &[bool], values: &[u64], out: &mut [u8], at: us
     let end = date_at(signs, values, 8);
     let mode = u8_at(signs, values, 11);
     match interest::interest(principal, rate, basis, start, end, mode) {
-        Answer::Refused(refusal) => put_refused(out, at, refusal),
-        Answer::Value(amount) => put_interest(out, at, amount, day_count(basis, start, end)),
+        Answer::Refused(refusal) => Reply::Refused(refusal),
+        Answer::Value(amount) => match day_count(basis, start, end) {
+            DayCount::Refused(refusal) => Reply::Refused(refusal),
+            DayCount::Days(count) => Reply::Interest(amount, count),
+        },
     }
 }
 
-fn put_two(out: &mut [u8], at: usize, one: i64, other: i64) -> usize {
-    let behind = put_accepted(out, at);
-    let behind = put_whole(out, behind, one);
-    put_whole(out, behind, other)
-}
-
-pub(crate) fn tax_net(signs: &[bool], values: &[u64], out: &mut [u8], at: usize) -> usize {
-    let net = amount_at(signs, values, 0);
-    match tax_from_net(net, u32_at(signs, values, 3), u8_at(signs, values, 4)) {
-        Taxed::Refused(refusal) => put_refused(out, at, refusal),
-        Taxed::Value(split) => put_two(out, at, split.tax.coefficient, split.gross.coefficient),
+pub(crate) fn tax_of(verb: Verb, signs: &[bool], values: &[u64]) -> Reply {
+    let amount = amount_at(signs, values, 0);
+    let rate = u32_at(signs, values, 3);
+    let mode = u8_at(signs, values, 4);
+    if let Verb::TaxNet = verb {
+        return match tax_from_net(amount, rate, mode) {
+            Taxed::Refused(refusal) => Reply::Refused(refusal),
+            Taxed::Value(split) => Reply::Two(split.tax.coefficient, split.gross.coefficient),
+        };
+    }
+    match tax_from_gross(amount, rate, mode) {
+        Taxed::Refused(refusal) => Reply::Refused(refusal),
+        Taxed::Value(split) => Reply::Two(split.tax.coefficient, split.net.coefficient),
     }
 }
 
-pub(crate) fn tax_gross(signs: &[bool], values: &[u64], out: &mut [u8], at: usize) -> usize {
-    let gross = amount_at(signs, values, 0);
-    match tax_from_gross(gross, u32_at(signs, values, 3), u8_at(signs, values, 4)) {
-        Taxed::Refused(refusal) => put_refused(out, at, refusal),
-        Taxed::Value(split) => put_two(out, at, split.tax.coefficient, split.net.coefficient),
-    }
-}
-
-// The shares of the amount by the numbers behind it, of which there are `count` with it. The library takes at most 64 weights.
+// The shares of an amount by the numbers behind it, of which there are `count` with it.
 pub(crate) fn share_of(
+    amount: Amount,
     signs: &[bool],
     values: &[u64],
     count: usize,
-    weights: &mut [u32],
     out: &mut [u8],
     at: usize,
 ) -> usize {
-    let amount = amount_at(signs, values, 0);
-    let partners = read_weights(signs, values, 3, count, weights);
-    let mut shares: [i64; 64] = [0; 64];
+    let mut weights = [0u32; WEIGHTS];
+    let partners = read_weights(signs, values, 3, count, &mut weights);
+    let mut shares = [0i64; MOST];
     match share(amount, &weights[0..partners], &mut shares) {
         Checked::Refused(refusal) => put_refused(out, at, refusal),
         Checked::Passed => put_shares(out, at, &shares, partners),

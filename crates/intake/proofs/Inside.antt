@@ -1,7 +1,7 @@
 -- Whatever the bytes that are held begin with, its places lie among them, and a line has at most the bytes that a line may have. Bytes
 -- that wait for their line's end are never more than that and a carriage return. Assumes nothing.
 use mathlib.Core.Path.{_≡_}
-use mathlib.Core.Bool.{_||_}
+use mathlib.Core.Bool.{Bool, true, false, _||_}
 use mathlib.Core.List.{List}
 use Prim.Native.Nat.{ℕ, _+_, _-_, _≤_, _<_}
 use native.Mathlib.Nat.{min-le-right}
@@ -24,23 +24,24 @@ other-found z = absurd (omega arith)
 
 module _ (text : List ℕ) (at : Intake) where
   line-inside
-      : (end next : ℕ) → at .from ≤ end → end ≤ length text → next ≤ length text → Within (length text) (lineOf text at end next)
+      : (end next : ℕ) (unended : Bool) → at .from ≤ end → end ≤ length text → next ≤ length text
+      → Within (length text) (lineOf text at end next unended)
   unfolding lineOf
-  line-inside end next f h n =
+  line-inside end next unended f h n =
       either (Within (length text)) (at .skipping || ltb longest (stopOf text (at .from) end - at .from))
-      (λ e. record { in-order = omega arith; short = omega arith; inside = h; next-inside = n; waiting = λ w. other-found (cc) })
+      (λ e. record { in-order = f; short = λ w. other-found (cc); inside = h; next-inside = n; waiting = λ w. other-found (cc) })
       (λ e.
       let s = stop-within text (at .from) end f in
       let l : stopOf text (at .from) end - at .from ≤ longest = ltb-false _ _ (not-second (at .skipping) _ e) in
-      record { in-order = s .0; short = omega arith; inside = omega arith; next-inside = n; waiting = λ w. other-found (cc) })
+      record { in-order = s .0; short = λ w. omega arith; inside = omega arith; next-inside = n; waiting = λ w. other-found (cc) })
 
   last-inside : at .from ≤ length text → Within (length text) (lastOf text at)
   unfolding lastOf
   last-inside h =
       either (Within (length text)) (at .skipping || ltb (at .from) (length text))
-      (λ e. line-inside (length text) (length text) h (omega arith) (omega arith))
+      (λ e. line-inside (length text) (length text) true h (omega arith) (omega arith))
       (λ e.
-      record { in-order = omega arith; short = omega arith; inside = omega arith; next-inside = h; waiting = λ w. other-found (cc) })
+      record { in-order = omega arith; short = λ w. other-found (cc); inside = omega arith; next-inside = h; waiting = λ w. other-found (cc) })
 
   unended-inside : at .from ≤ length text → Within (length text) (unendedOf at (length text))
   unfolding unendedOf
@@ -51,7 +52,7 @@ module _ (text : List ℕ) (at : Intake) where
       (at .skipping || ltb (longest + 1) (length text - at .from))
       (λ e. (omega arith, omega arith))
       (λ e. let l : length text - at .from ≤ longest + 1 = ltb-false _ _ (not-second (at .skipping) _ e) in (h, omega arith)) in
-      record { in-order = omega arith; short = omega arith; inside = omega arith; next-inside = waits .0; waiting = λ w. waits .1 }
+      record { in-order = h; short = λ w. other-found (cc); inside = omega arith; next-inside = waits .0; waiting = λ w. waits .1 }
 
   from-inside : at .from ≤ length text → Within (length text) (cutFrom text at)
   unfolding cutFrom
@@ -59,7 +60,7 @@ module _ (text : List ℕ) (at : Intake) where
       either (Within (length text)) (ltb (lineEnd text (at .from)) (length text))
       (λ e.
       let l : lineEnd text (at .from) < length text = ltb-true _ _ e in
-      line-inside (lineEnd text (at .from)) (lineEnd text (at .from) + 1) (line-from text (at .from)) (omega arith) (omega arith))
+      line-inside (lineEnd text (at .from)) (lineEnd text (at .from) + 1) false (line-from text (at .from)) (omega arith) (omega arith))
       (λ e. either (Within (length text)) (at .ended) (λ f. last-inside h) (λ f. unended-inside h))
 
   pub standing-inside : (standingOf text at) .from ≤ length text

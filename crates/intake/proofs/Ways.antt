@@ -12,22 +12,22 @@ use Rattle.intake.specs.declared.Cut.{Cut}
 use Rattle.intake.specs.declared.Found.the-variants.{Nothing}
 
 module _ (text : List ℕ) (at : Intake) where
-  pub last-skipped : at .skipping ≡ true → lineOf text at (length text) (length text) ≡ lastOf text at
+  pub last-skipped : at .skipping ≡ true → lineOf text at (length text) (length text) true ≡ lastOf text at
   unfolding lastOf
   last-skipped e = rw e
 
-  pub last-line : at .skipping ≡ false → at .from < length text → lineOf text at (length text) (length text) ≡ lastOf text at
+  pub last-line : at .skipping ≡ false → at .from < length text → lineOf text at (length text) (length text) true ≡ lastOf text at
   unfolding lastOf
   last-line e h = rw (e, lt-ltb (at .from) (length text) h)
 
   pub no-line
       : at .skipping ≡ false → length text ≤ at .from
-      → _≡_ {A = Cut} (record { found = Nothing; start = length text; end = length text; next = at }) (lastOf text at)
+      → _≡_ {A = Cut} (record { found = Nothing; start = length text; end = length text; unended = false; next = at }) (lastOf text at)
   unfolding lastOf
   no-line e h = rw (e, le-ltb (at .from) (length text) h)
 
   pub with-newline
-      : (end : ℕ) → end ≡ lineEnd text (at .from) → end < length text → lineOf text at end (end + 1) ≡ cutFrom text at
+      : (end : ℕ) → end ≡ lineEnd text (at .from) → end < length text → lineOf text at end (end + 1) false ≡ cutFrom text at
   unfolding cutFrom
   with-newline end e h = rw (← e, lt-ltb end (length text) h)
 

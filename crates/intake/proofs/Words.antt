@@ -14,7 +14,8 @@ use Rattle.lines.specs.Reads.{numberAt}
 use Rattle.lines.specs.declared.Word.{Word}
 use Rattle.lines.specs.declared.Number.{Number}
 use Rattle.lines.proofs.FirstWord.{start-from, start-end, end-within}
-use Rattle.intake.specs.Lists.{filled}
+use Rattle.whole.specs.Lists.{filled}
+use Rattle.whole.proofs.Lists.{length-filled, fill-none, fill-more}
 use Rattle.intake.specs.Words.{
   nextWord,
   isNumber,
@@ -32,7 +33,6 @@ use Rattle.intake.specs.Words.{
 use Rattle.intake.specs.declared.Given.{Given}
 use Rattle.intake.specs.declared.Given.the-variants.{Numbers, Others}
 use Rattle.intake.proofs.Choices.{either}
-use Rattle.intake.proofs.Fills.{length-filled, none-filled, one-filled}
 
 -- the word from the lesser of the place and the line's end lies within the line
 pub next-word
@@ -86,8 +86,8 @@ module _ (line : List ℕ) (from : ℕ) where
       pub numbers : numbersAmong line from count ≡ count
       pub few : count ≤ length line
       pub before : count ≤ at
-      pub signs-are : signs ≡ filled (λ k. signIn (numberBehind line from k)) count signs₀
-      pub values-are : values ≡ filled (λ k. magnitudeIn (numberBehind line from k)) count values₀
+      pub signs-are : signs ≡ filled 0 (λ k. signIn (numberBehind line from k)) count signs₀
+      pub values-are : values ≡ filled 0 (λ k. magnitudeIn (numberBehind line from k)) count values₀
       pub signs-sized : length signs ≡ length signs₀
       pub values-sized : length values ≡ length values₀
 
@@ -99,8 +99,8 @@ module _ (line : List ℕ) (from : ℕ) where
           numbers = refl;
           few = omega arith;
           before = omega arith;
-          signs-are = none-filled (λ k. signIn (numberBehind line from k)) signs₀;
-          values-are = none-filled (λ k. magnitudeIn (numberBehind line from k)) values₀;
+          signs-are = fill-none 0 (λ k. signIn (numberBehind line from k)) signs₀;
+          values-are = fill-none 0 (λ k. magnitudeIn (numberBehind line from k)) values₀;
           signs-sized = refl;
           values-sized = refl;
         }
@@ -152,12 +152,12 @@ module _ (line : List ℕ) (from : ℕ) where
           one-taken l y =
               let same = next-number word w in
               let places = word-places word w l s in
-              let signs-now : signs′ ≡ filled (λ k. signIn (numberBehind line from k)) (count + 1) signs₀ =
+              let signs-now : signs′ ≡ filled 0 (λ k. signIn (numberBehind line from k)) (count + 1) signs₀ =
               rw y at (told .1 .0)
-              ∙ one-filled (λ k. signIn (numberBehind line from k)) count signs₀ signs (signIn (numberAt line word)) (t .signs-are) (ap signIn same) in
-              let values-now : values′ ≡ filled (λ k. magnitudeIn (numberBehind line from k)) (count + 1) values₀ =
+              ∙ fill-more 0 (λ k. signIn (numberBehind line from k)) signs₀ signs count count (signIn (numberAt line word)) (t .signs-are) (omega arith) (ap signIn same) in
+              let values-now : values′ ≡ filled 0 (λ k. magnitudeIn (numberBehind line from k)) (count + 1) values₀ =
               rw y at (told .1 .1)
-              ∙ one-filled (λ k. magnitudeIn (numberBehind line from k)) count values₀ values (magnitudeIn (numberAt line word)) (t .values-are)
+              ∙ fill-more 0 (λ k. magnitudeIn (numberBehind line from k)) values₀ values count count (magnitudeIn (numberAt line word)) (t .values-are) (omega arith)
               (ap magnitudeIn same) in
               record {
                 place = rw (add-one count, w, t .place);
@@ -166,8 +166,8 @@ module _ (line : List ℕ) (from : ℕ) where
                 before = omega (arith, t .before);
                 signs-are = signs-now;
                 values-are = values-now;
-                signs-sized = ap length signs-now ∙ length-filled (λ k. signIn (numberBehind line from k)) (count + 1) signs₀;
-                values-sized = ap length values-now ∙ length-filled (λ k. magnitudeIn (numberBehind line from k)) (count + 1) values₀;
+                signs-sized = ap length signs-now ∙ length-filled 0 (λ k. signIn (numberBehind line from k)) signs₀ (count + 1);
+                values-sized = ap length values-now ∙ length-filled 0 (λ k. magnitudeIn (numberBehind line from k)) values₀ (count + 1);
               }
 
           pub other-word

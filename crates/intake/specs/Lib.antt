@@ -1,6 +1,7 @@
 pub mod Cuts
 pub mod Bounds
-pub mod Lists
 pub mod Keeping
+pub mod Leads
+pub mod Marks
 pub mod Numbers
 pub mod Words

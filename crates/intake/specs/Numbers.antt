@@ -6,7 +6,7 @@ use lib.IntN.{ℤ}
 use lib.ListN.{length, getD}
 use Rattle.amount.specs.declared.Amount.{Amount}
 use Rattle.lines.specs.Lines.{asUnsigned, asSigned}
-use Rattle.intake.specs.Lists.{filled}
+use Rattle.whole.specs.Lists.{filled}
 
 abbrev pub unsignedAt : (largest : ℕ) → List Bool → List ℕ → ℕ → ℕ
 unsignedAt largest signs values place = asUnsigned largest (getD signs place false) (getD values place 0)
@@ -29,4 +29,4 @@ weightCount from to weights = min (to - from) (length weights)
 
 unfoldable pub weightsOf : List Bool → List ℕ → (from to : ℕ) → List ℕ → List ℕ
 weightsOf signs values from to weights =
-    filled (λ k. unsignedAt 4294967295 signs values (from + k)) (weightCount from to weights) weights
+    filled 0 (λ k. unsignedAt 4294967295 signs values (from + k)) (weightCount from to weights) weights

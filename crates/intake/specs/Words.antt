@@ -1,18 +1,23 @@
 -- The words of a line from a place on, read as numbers one after another up to the first that is none. Cited by `next_word` and
 -- `read_numbers`. Assumes nothing.
 use mathlib.Core.Bool.{Bool, true, false, cond}
-use mathlib.Core.List.{List}
+use mathlib.Core.List.{List, [], _∷_}
 use Prim.Native.Nat.{ℕ, zero, suc, min}
-use lib.Dec.{ltb}
+use lib.Dec.{ltb, eqb}
 use lib.ListN.{length}
 use Rattle.lines.specs.Lines.{wordFrom}
 use Rattle.lines.specs.Reads.{numberAt}
 use Rattle.lines.specs.declared.Word.{Word}
 use Rattle.lines.specs.declared.Number.{Number}
 use Rattle.lines.specs.declared.Number.the-variants.{Whole, Nothing}
-use Rattle.intake.specs.Lists.{filled}
+use Rattle.whole.specs.Lists.{filled}
 use Rattle.intake.specs.declared.Given.{Given}
 use Rattle.intake.specs.declared.Given.the-variants.{Numbers, Others}
+
+-- "An empty line, or one whose first byte is `#`"
+unfoldable pub asksNothing : List ℕ → Bool
+asksNothing [] = true
+asksNothing (b ∷ bs) = eqb b 35
 
 -- the first word from a place on; from the line's end where the place is beyond it
 unfoldable pub nextWord : List ℕ → ℕ → Word
@@ -60,7 +65,7 @@ givenOf line from =
 
 -- the two lists afterwards: each number before the first word that is none stands at its place, where the list has it
 unfoldable pub signsOf : List ℕ → (from : ℕ) → List Bool → List Bool
-signsOf line from = filled (λ k. signIn (numberBehind line from k)) (numbersIn line from)
+signsOf line from = filled 0 (λ k. signIn (numberBehind line from k)) (numbersIn line from)
 
 unfoldable pub magnitudesOf : List ℕ → (from : ℕ) → List ℕ → List ℕ
-magnitudesOf line from = filled (λ k. magnitudeIn (numberBehind line from k)) (numbersIn line from)
+magnitudesOf line from = filled 0 (λ k. magnitudeIn (numberBehind line from k)) (numbersIn line from)

@@ -27,9 +27,9 @@ fn stop_of(text: &[u8], from: usize, end: usize) -> usize
 }
 
 // The line that ends at a place, with the next one from another on.
-fn line_of(text: &[u8], at: Intake, end: usize, next: usize) -> Cut
+fn line_of(text: &[u8], at: Intake, end: usize, next: usize, unended: bool) -> Cut
     requires { ⌜ (at .from ≤ end) × (end ≤ length (now text)) ⌝ }
-    ensures { λ r. ⌜ r ≡ lineOf (now (text .entry)) at end next ⌝ }
+    ensures { λ r. ⌜ r ≡ lineOf (now (text .entry)) at end next unended ⌝ }
 {
     let from = at.from;
     let stop = stop_of(text, from, end);
@@ -41,16 +41,18 @@ fn line_of(text: &[u8], at: Intake, end: usize, next: usize) -> Cut
     if at.skipping {
         return Cut {
             found: Found::Long,
-            start: end,
+            start: from,
             end,
+            unended,
             next: behind,
         };
     }
     if LONGEST < stop - from {
         return Cut {
             found: Found::Long,
-            start: end,
+            start: from,
             end,
+            unended,
             next: behind,
         };
     }
@@ -58,6 +60,7 @@ fn line_of(text: &[u8], at: Intake, end: usize, next: usize) -> Cut
         found: Found::Line,
         start: from,
         end: stop,
+        unended,
         next: behind,
     }
 }
@@ -70,15 +73,16 @@ fn last_of(text: &[u8], at: Intake) -> Cut
     let from = at.from;
     let end = text.len();
     if at.skipping {
-        return line_of(text, at, end, end);
+        return line_of(text, at, end, end, true);
     }
     if from < end {
-        return line_of(text, at, end, end);
+        return line_of(text, at, end, end, true);
     }
     Cut {
         found: Found::Nothing,
         start: end,
         end,
+        unended: false,
         next: at,
     }
 }
@@ -88,6 +92,7 @@ fn unended_of(at: Intake, end: usize) -> Cut
     requires { ⌜ at .from ≤ end ⌝ }
     ensures { λ r. ⌜ r ≡ unendedOf at end ⌝ }
 {
+    let from = at.from;
     let dropped = Intake {
         from: end,
         skipping: true,
@@ -96,23 +101,26 @@ fn unended_of(at: Intake, end: usize) -> Cut
     if at.skipping {
         return Cut {
             found: Found::More,
-            start: end,
+            start: from,
             end,
+            unended: false,
             next: dropped,
         };
     }
-    if LONGEST + 1 < end - at.from {
+    if LONGEST + 1 < end - from {
         return Cut {
             found: Found::More,
-            start: end,
+            start: from,
             end,
+            unended: false,
             next: dropped,
         };
     }
     Cut {
         found: Found::More,
-        start: end,
+        start: from,
         end,
+        unended: false,
         next: at,
     }
 }
@@ -123,7 +131,7 @@ fn cut(text: &[u8], at: Intake) -> Cut
 {
     let end = line_end(text, at.from);
     if end < text.len() {
-        return line_of(text, at, end, end + 1);
+        return line_of(text, at, end, end + 1, false);
     }
     if at.ended {
         return last_of(text, at);

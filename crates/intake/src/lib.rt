@@ -1,7 +1,9 @@
-// Lines out of a stream that comes in chunks: the next line of the bytes that are held, what is kept for the next chunk, and a line's
-// numbers.
+// Lines out of a stream that comes in chunks: the next line of the bytes that are held, what is kept for the next chunk, the first word of
+// a line that is too long to hold, and a line's numbers.
 mod cuts;
 mod keeping;
+mod leads;
+mod marks;
 mod numbers;
 
 // The longest line that is read.
@@ -29,12 +31,34 @@ pub enum Found {
     Nothing,
 }
 
-// What was found; a line's first place and the place behind its last; and where reading stands then.
+// What was found; its first place among the bytes that are held and the place behind its last; whether it is a line that the end of the
+// input ends, and no newline; and where reading stands then.
 pub struct Cut {
     pub found: Found,
     pub start: usize,
     pub end: usize,
+    pub unended: bool,
     pub next: Intake,
+}
+
+// What is known of the first word of a line after some of its bytes: nothing but spaces came; it begins so, or is `open`, with a space or a
+// carriage return behind it; or it is another.
+pub enum Lead {
+    Spaces,
+    O,
+    Op,
+    Ope,
+    Open,
+    OpenSpace,
+    OpenReturn,
+    Other,
+}
+
+// What the input begins with: a byte order mark, the beginning of one and no more yet, or something else.
+pub enum Mark {
+    Whole,
+    Part,
+    Nothing,
 }
 
 // The words behind a line's first: so many numbers, or not numbers alone.
@@ -45,7 +69,11 @@ pub enum Given {
 
 pub use cuts::next_line;
 pub use keeping::keep;
+pub use leads::is_open;
+pub use leads::lead_of;
+pub use marks::mark_of;
 pub use numbers::amount_at;
+pub use numbers::asks_nothing;
 pub use numbers::i64_at;
 pub use numbers::next_word;
 pub use numbers::read_numbers;

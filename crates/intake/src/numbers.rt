@@ -18,7 +18,17 @@ ghost use lib.ListN.{length, getD, set};
 ghost use Rattle.lines.specs.Lines.{most};
 ghost use Rattle.lines.specs.Reads.{numberAt};
 ghost use Rattle.intake.specs.Numbers.{unsignedAt, signedAt, amountAt, weightCount, weightsOf};
-ghost use Rattle.intake.specs.Words.{nextWord, isNumber, signIn, magnitudeIn, givenOf, signsOf, magnitudesOf};
+ghost use Rattle.intake.specs.Words.{asksNothing, nextWord, isNumber, signIn, magnitudeIn, givenOf, signsOf, magnitudesOf};
+
+// Whether a line is empty or a comment.
+pub fn asks_nothing(line: &[u8]) -> bool
+    ensures { λ r. ⌜ r ≡ asksNothing (now (line .entry)) ⌝ }
+{
+    if line.len() == 0 {
+        return true;
+    }
+    line[0] == b'#'
+}
 
 // The first word from a place on, which lies within the line.
 pub fn next_word(line: &[u8], at: usize) -> Word

@@ -1,22 +1,29 @@
 // The current book with what is counted of it.
 use crate::tally::Tally;
-use crate::tally::counted;
+use crate::tally::count_call;
+use crate::tally::count_calls;
 use crate::tally::no_calls;
 use amount::Amount;
 use book::Book;
 use book::Moved;
 use bulk::run;
 use currency::Currency;
+use intake::next_word;
+use intake::read_numbers;
 use intake::read_weights;
 use intake::u8_at;
 use refusal::Checked;
 ghost use Prim.Native.Nat.{_≤_};
-ghost use lib.ListN.{length};
-ghost use Rattle.rerun.specs.Stands.{Lists};
 
-// How the book was opened: not at all, with a refusal's number, or as asked.
+// One weight more than a book takes: too many are refused by the library.
+const WEIGHTS: usize = Book::PARTNERS + 1;
+// The numbers of an opening: a currency and the weights.
+const NUMBERS: usize = WEIGHTS + 1;
+
+// How the book was opened: not at all, by an `open` that is not understood, with a refusal's number, or as asked.
 pub enum Opening {
     Nothing,
+    Unknown,
     Refused(u8),
     Accepted,
 }
@@ -27,8 +34,8 @@ pub struct Account {
     pub tally: Tally,
 }
 
-// Before any opening: the book whose every field is 0.
-pub(crate) fn no_account() -> Account {
+// The book whose every field is 0, before any opening and after one that is not understood.
+pub(crate) fn no_account(opening: Opening) -> Account {
     let book = Book {
         currency: Currency(0),
         count: 0,
@@ -36,24 +43,23 @@ pub(crate) fn no_account() -> Account {
         net: 0,
     };
     Account {
-        opening: Opening::Nothing,
+        opening,
         book,
         tally: no_calls(),
     }
 }
 
-fn number_of(outcome: Checked) -> u8 {
-    match outcome {
-        Checked::Passed => 0,
-        Checked::Refused(refusal) => refusal.number(),
-    }
-}
-
-// The opening that the numbers ask for, of which there are `count`.
-pub(crate) fn opened(signs: &[bool], values: &[u64], count: usize, weights: &mut [u32]) -> Account {
-    let currency = Currency(u8_at(signs, values, 0));
-    let partners = read_weights(signs, values, 1, count, weights);
-    let opened = Book::open(currency, &weights[0..partners]);
+// The opening that a line asks for.
+pub(crate) fn open(line: &[u8]) -> Account {
+    let mut signs = [false; NUMBERS];
+    let mut values = [0u64; NUMBERS];
+    let mut weights = [0u32; WEIGHTS];
+    let word = next_word(line, 0);
+    let intake::Given::Numbers(count) = read_numbers(line, word.end, &mut signs, &mut values) else {
+        return no_account(Opening::Unknown);
+    };
+    let partners = read_weights(&signs, &values, 1, count, &mut weights);
+    let opened = Book::open(Currency(u8_at(&signs, &values, 0)), &weights[0..partners]);
     let book = opened.book;
     let outcome = opened.outcome;
     let opening = match outcome {
@@ -67,73 +73,92 @@ pub(crate) fn opened(signs: &[bool], values: &[u64], count: usize, weights: &mut
     }
 }
 
-// With the calls that wait served, `count` of them.
-pub(crate) fn served(
+// The lesser of two counts: no more calls are counted than there are.
+fn least(a: usize, b: usize) -> usize
+    ensures { λ r. ⌜ (r ≤ a) × (r ≤ b) ⌝ }
+{
+    if a < b { a } else { b }
+}
+
+// With so many calls that wait served, for which the lists have places.
+pub(crate) fn run_calls(
     account: Account,
     count: usize,
-    kinds: &[bool],
+    refunds: &[bool],
     coefficients: &[i64],
+    lines: &[u64],
     payouts: &mut [u64],
     numbers: &mut [u8],
-) -> Account
-    requires { ⌜ count ≤ length (now kinds) ⌝ }
-    requires { ⌜ Lists (length (now kinds)) (length (now coefficients)) (length (now payouts)) (length (now numbers)) ⌝ }
-{
+) -> Account {
+    if count == 0 {
+        return account;
+    }
+    if refunds.len() < count {
+        return account;
+    }
+    if coefficients.len() < count {
+        return account;
+    }
+    if lines.len() < count {
+        return account;
+    }
+    if numbers.len() < count {
+        return account;
+    }
+    if payouts.len() / Book::PARTNERS < count {
+        return account;
+    }
     let opening = account.opening;
     let book = account.book;
     let tally = account.tally;
     let ran = run(
         book,
-        &kinds[0..count],
+        &refunds[0..count],
         &coefficients[0..count],
         payouts,
         numbers,
     );
     let book = ran.book;
-    let calls = ran.served;
+    let served = least(ran.served, count);
+    let tally = count_calls(
+        tally,
+        served,
+        refunds,
+        coefficients,
+        lines,
+        payouts,
+        numbers,
+    );
     Account {
         opening,
         book,
-        tally: counted(tally, &kinds[0..calls], coefficients, payouts, numbers),
+        tally,
     }
 }
 
-fn moved(book: Book, kind: bool, amount: Amount) -> Moved {
-    if kind {
+fn move_by(book: Book, refund: bool, amount: Amount) -> Moved {
+    if refund {
         book.refund(amount)
     } else {
         book.post(amount)
     }
 }
 
-// One call as a run of calls.
-fn counted_one(
-    tally: Tally,
-    kind: bool,
-    coefficient: i64,
-    payouts: [u64; Book::PARTNERS],
-    number: u8,
-) -> Tally {
-    let kinds = [kind];
-    let coefficients = [coefficient];
-    let numbers = [number];
-    counted(tally, &kinds, &coefficients, &payouts, &numbers)
-}
-
 // With one call served. An amount that is not in the book's currency at its own digits is refused at any net total, so that such a call
 // may go before those that wait.
-pub(crate) fn called(account: Account, kind: bool, amount: Amount) -> Account {
+pub(crate) fn call_now(account: Account, refund: bool, amount: Amount, line: u64) -> Account {
     let opening = account.opening;
     let book = account.book;
     let tally = account.tally;
-    let moved = moved(book, kind, amount);
+    let moved = move_by(book, refund, amount);
     let book = moved.book;
     let payouts = moved.payouts;
     let outcome = moved.outcome;
-    let number = number_of(outcome);
+    let number = outcome.number();
+    let tally = count_call(tally, refund, amount.coefficient, line, payouts, number);
     Account {
         opening,
         book,
-        tally: counted_one(tally, kind, amount.coefficient, payouts, number),
+        tally,
     }
 }

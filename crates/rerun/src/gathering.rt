@@ -1,18 +1,19 @@
 // Calls gathered for a run, line by line from the bytes that are held.
 use crate::asking::Asked;
 use crate::asking::asked_of;
+use amount::Amount;
+use console::Feed;
+use console::first_feed;
+use console::next_cut;
+use intake::Cut;
 use intake::Found;
-use intake::Intake;
-use intake::i64_at;
-use intake::next_line;
-use intake::u8_at;
+use intake::Lead;
+use intake::is_open;
+use intake::lead_of;
 use std::num::wrapping_add_u64;
-ghost use mathlib.Core.Path.{_≡_};
-ghost use mathlib.Core.Bool.{false};
-ghost use Prim.Native.Nat.{_≤_, _<_};
-ghost use lib.ListN.{length};
-ghost use Rattle.rerun.specs.Gathers.{Goes, Whole, Waits};
 
+// The calls of a run.
+pub const CALLS: usize = 8_192;
 // The lines of one stretch: more than a buffer holds.
 const STRETCH: usize = 100_000;
 
@@ -21,10 +22,12 @@ pub enum Met {
     Nothing,
     // no place is left for a call
     Full,
-    // an opening of so many numbers
-    Open(usize),
-    // a call of this kind whose amount is not in the book's currency at its own digits
-    Call(bool),
+    // an opening
+    Open,
+    // an `open` that is not understood
+    Astray,
+    // a call that can't wait: its amount is not in the book's currency at its own digits, or there is no book
+    Call(bool, Amount),
     // a line whose end is yet to come
     More,
     // the end of the input
@@ -32,178 +35,208 @@ pub enum Met {
 }
 
 pub struct Gathering {
-    // where reading stands in the bytes that are held
-    pub intake: Intake,
+    pub feed: Feed,
     // how many calls wait
     pub count: usize,
     // how many lines are done
     pub lines: u64,
-    // how many lines were not understood since the last opening
+    // how many lines were not understood since the last opening, and the number of the first
     pub unknown: u64,
+    pub first: u64,
+    // what is known of the first word of a line that is too long to hold
+    pub lead: Lead,
+    // the last line done, and whether it has no newline
+    pub start: usize,
+    pub end: usize,
+    pub unended: bool,
     pub met: Met,
 }
 
-fn is_met(met: Met) -> bool
-    ensures { λ r. ⌜ (r ≡ false → Goes met) ⌝ }
-{
-    if let Met::Nothing = met { false } else { true }
+// The currency and the digits of the amounts that may wait, where any may.
+pub struct Own {
+    pub waits: bool,
+    pub currency: u8,
+    pub digits: u8,
 }
 
-// The same, but for what is met.
-fn meeting(at: Gathering, met: Met) -> Gathering
-    ensures { λ r. ⌜ (r .count ≡ at .count) × (r .intake .from ≡ at .intake .from) × (r .met ≡ met) ⌝ }
-{
-    let intake = at.intake;
+pub(crate) fn first_gathering() -> Gathering {
     Gathering {
-        intake,
+        feed: first_feed(),
+        count: 0,
+        lines: 0,
+        unknown: 0,
+        first: 0,
+        lead: Lead::Spaces,
+        start: 0,
+        end: 0,
+        unended: false,
+        met: Met::Nothing,
+    }
+}
+
+// With a line done that asks for something: it is met, or counted where it is not understood.
+fn pass_line(at: Gathering, cut: Cut, asked: Asked) -> Gathering {
+    let mut feed = at.feed;
+    let next = cut.next;
+    feed.intake = next;
+    let lines = wrapping_add_u64(at.lines, 1);
+    let mut unknown = at.unknown;
+    let mut first = at.first;
+    if let Asked::Unknown = asked {
+        if unknown == 0 {
+            first = lines;
+        }
+        unknown = wrapping_add_u64(unknown, 1);
+    }
+    let met = match asked {
+        Asked::Open => Met::Open,
+        Asked::Astray => Met::Astray,
+        Asked::Call(refund, amount) => Met::Call(refund, amount),
+        _ => Met::Nothing,
+    };
+    Gathering {
+        feed,
         count: at.count,
-        lines: at.lines,
-        unknown: at.unknown,
+        lines,
+        unknown,
+        first,
+        lead: Lead::Spaces,
+        start: cut.start,
+        end: cut.end,
+        unended: cut.unended,
         met,
     }
 }
 
-// With one more line done.
-fn done(mut at: Gathering) -> Gathering
-    ensures { λ r. ⌜ (r .count ≡ at .count) × (r .met ≡ at .met) ⌝ }
-{
-    at.lines = wrapping_add_u64(at.lines, 1);
-    at
-}
-
-fn not_understood(mut at: Gathering) -> Gathering
-    ensures { λ r. ⌜ (r .count ≡ at .count) × (r .met ≡ at .met) ⌝ }
-{
-    at.unknown = wrapping_add_u64(at.unknown, 1);
-    done(at)
-}
-
-// Whether the amount of three numbers is in a currency and at a scale.
-fn is_own(currency: u8, digits: u8, signs: &[bool], values: &[u64]) -> bool {
-    if u8_at(signs, values, 0) != currency {
-        return false;
-    }
-    u8_at(signs, values, 1) == digits
-}
-
-// With one more call waiting.
-fn waiting(
-    mut at: Gathering,
-    kind: bool,
-    coefficient: i64,
-    kinds: &mut [bool],
-    coefficients: &mut [i64],
-) -> Gathering
-    requires { ⌜ (at .count < length (now kinds)) × (at .count < length (now coefficients)) ⌝ }
-    ensures { λ r. ⌜ (r .count ≤ length (now (kinds .exit))) × (r .met ≡ at .met) ⌝ }
-{
-    let place = at.count;
-    kinds[place] = kind;
-    coefficients[place] = coefficient;
-    at.count = place + 1;
-    done(at)
-}
-
-// With what a line asks for taken, or met.
-fn taken(
-    asked: Asked,
-    currency: u8,
-    digits: u8,
-    at: Gathering,
-    signs: &[bool],
-    values: &[u64],
-    kinds: &mut [bool],
-    coefficients: &mut [i64],
-) -> Gathering
-    requires { ⌜ Goes (at .met) ⌝ }
-    requires { ⌜ (at .count < length (now kinds)) × (at .count < length (now coefficients)) ⌝ }
-    ensures { λ r. ⌜ (r .count ≤ length (now (kinds .exit))) × Whole (r .met) ⌝ }
-{
-    match asked {
-        Asked::Nothing => done(at),
-        Asked::Unknown => not_understood(at),
-        Asked::Open(count) => meeting(done(at), Met::Open(count)),
-        Asked::Call(kind) => if is_own(currency, digits, signs, values) {
-            waiting(at, kind, i64_at(signs, values, 2), kinds, coefficients)
-        } else {
-            meeting(done(at), Met::Call(kind))
-        },
+// With no line done: more bytes are to come, or none.
+fn stop_at(at: Gathering, cut: Cut, lead: Lead, met: Met) -> Gathering {
+    let mut feed = at.feed;
+    let next = cut.next;
+    feed.intake = next;
+    Gathering {
+        feed,
+        count: at.count,
+        lines: at.lines,
+        unknown: at.unknown,
+        first: at.first,
+        lead,
+        start: 0,
+        end: 0,
+        unended: at.unended,
+        met,
     }
 }
 
-// With what the bytes held begin with taken, or met.
-fn step(
-    text: &[u8],
-    currency: u8,
-    digits: u8,
-    mut at: Gathering,
-    signs: &mut [bool],
-    values: &mut [u64],
-    kinds: &mut [bool],
-    coefficients: &mut [i64],
-) -> Gathering
-    requires { ⌜ Goes (at .met) ⌝ }
-    requires { ⌜ (at .count < length (now kinds)) × (at .count < length (now coefficients)) ⌝ }
-    ensures { λ r. ⌜ (r .count ≤ length (now (kinds .exit))) × Waits r (length (now (text .entry))) ⌝ }
-{
-    let intake = at.intake;
-    let cut = next_line(text, intake);
+// A line of over 4,000 bytes is not understood, whatever it holds; but its first word may be `open`.
+fn asked_by_long(lead: Lead) -> Asked {
+    if is_open(lead) {
+        Asked::Astray
+    } else {
+        Asked::Unknown
+    }
+}
+
+// What the bytes held begin with. Bytes of a line that is too long are looked at before they are dropped.
+fn read_next(text: &[u8], at: Gathering) -> Gathering {
+    let feed = at.feed;
+    let lead = at.lead;
+    let cut = next_cut(text, feed);
     let start = cut.start;
     let end = cut.end;
-    let next = cut.next;
     let found = cut.found;
-    at.intake = next;
     match found {
-        Found::Line => {
-            let asked = asked_of(&text[start..end], signs, values);
-            taken(
-                asked,
-                currency,
-                digits,
-                at,
-                signs,
-                values,
-                kinds,
-                coefficients,
-            )
+        Found::Line => pass_line(at, cut, asked_of(&text[start..end])),
+        Found::Long => pass_line(at, cut, asked_by_long(lead_of(lead, &text[start..end]))),
+        Found::More => if cut.next.skipping {
+            stop_at(at, cut, lead_of(lead, &text[start..end]), Met::More)
+        } else {
+            stop_at(at, cut, lead, Met::More)
         },
-        Found::Long => not_understood(at),
-        Found::More => meeting(at, Met::More),
-        Found::Nothing => meeting(at, Met::End),
+        Found::Nothing => stop_at(at, cut, lead, Met::End),
     }
 }
 
-// A stretch of lines: the calls on the book itself wait in the two lists, until there is something that can't.
+fn is_own(own: Own, amount: Amount) -> bool {
+    if !own.waits {
+        return false;
+    }
+    if amount.currency.0 != own.currency {
+        return false;
+    }
+    amount.scale == own.digits
+}
+
+// With a call that may wait put behind those that do.
+fn wait(
+    own: Own,
+    mut at: Gathering,
+    refunds: &mut [bool],
+    coefficients: &mut [i64],
+    lines: &mut [u64],
+) -> Gathering {
+    let place = at.count;
+    let met = at.met;
+    let Met::Call(refund, amount) = met else {
+        return at;
+    };
+    if !is_own(own, amount) {
+        return at;
+    }
+    if refunds.len() <= place {
+        return at;
+    }
+    if coefficients.len() <= place {
+        return at;
+    }
+    if lines.len() <= place {
+        return at;
+    }
+    let coefficient = amount.coefficient;
+    refunds[place] = refund;
+    coefficients[place] = coefficient;
+    lines[place] = at.lines;
+    at.count = place + 1;
+    if CALLS <= place + 1 {
+        return meet(at, Met::Full);
+    }
+    meet(at, Met::Nothing)
+}
+
+// The same, but for what is met.
+fn meet(at: Gathering, met: Met) -> Gathering {
+    let feed = at.feed;
+    let lead = at.lead;
+    Gathering {
+        feed,
+        count: at.count,
+        lines: at.lines,
+        unknown: at.unknown,
+        first: at.first,
+        lead,
+        start: at.start,
+        end: at.end,
+        unended: at.unended,
+        met,
+    }
+}
+
+fn is_met(met: Met) -> bool {
+    if let Met::Nothing = met { false } else { true }
+}
+
+// A stretch of lines: the calls on the book itself wait in the lists, until there is something that can't.
 pub(crate) fn gather(
     text: &[u8],
-    currency: u8,
-    digits: u8,
-    start: Gathering,
-    signs: &mut [bool],
-    values: &mut [u64],
-    kinds: &mut [bool],
+    own: Own,
+    from: Gathering,
+    refunds: &mut [bool],
     coefficients: &mut [i64],
-) -> Gathering
-    requires { ⌜ start .count ≤ length (now kinds) ⌝ }
-    requires { ⌜ length (now kinds) ≤ length (now coefficients) ⌝ }
-    ensures { λ r. ⌜ (r .count ≤ length (now (kinds .exit))) × Waits r (length (now (text .entry))) ⌝ }
-{
-    let mut at = meeting(start, Met::Nothing);
+    lines: &mut [u64],
+) -> Gathering {
+    let mut at = from;
     let mut i = 0;
     while i < STRETCH {
-        if kinds.len() <= at.count {
-            return meeting(at, Met::Full);
-        }
-        at = step(
-            text,
-            currency,
-            digits,
-            at,
-            signs,
-            values,
-            kinds,
-            coefficients,
-        );
+        at = wait(own, read_next(text, at), refunds, coefficients, lines);
         let met = at.met;
         if is_met(met) {
             return at;

@@ -1,11 +1,8 @@
-// The partners of a report, and whether its numbers agree.
+// The partners of a report.
 use crate::accounts::Account;
-use crate::tally::TAKEN;
-use crate::tally::sum_from;
-use crate::texts::put_end;
-use crate::texts::put_named;
 use amount::Amount;
 use book::Book;
+use console::put_named;
 use lines::put_bytes;
 use std::num::wrapping_add_u64;
 use whole::magnitude;
@@ -35,14 +32,14 @@ fn product(n: u64, weight: u64) -> u64
     n * weight
 }
 
-fn rounded_down(n: u64, d: u64) -> u64 {
+fn round_down(n: u64, d: u64) -> u64 {
     if d == 0 {
         return 0;
     }
     n / d
 }
 
-fn rounded_up(n: u64, d: u64) -> u64
+fn round_up(n: u64, d: u64) -> u64
     requires { ⌜ n < 2 ^ 63 ⌝ }
 {
     if d == 0 {
@@ -65,7 +62,7 @@ fn weight_sum(weights: [u32; Book::PARTNERS]) -> u64 {
     sum
 }
 
-fn partner_of(account: Account, totals: [u64; Book::PARTNERS], place: usize) -> Partner
+pub(crate) fn partner_of(account: Account, totals: [u64; Book::PARTNERS], place: usize) -> Partner
     requires { ⌜ place < 16 ⌝ }
 {
     let weights = account.book.weights;
@@ -76,40 +73,25 @@ fn partner_of(account: Account, totals: [u64; Book::PARTNERS], place: usize) -> 
     Partner {
         weight,
         paid: payouts[place],
-        taken: payouts[TAKEN + place],
+        taken: payouts[Book::PARTNERS + place],
         total: totals[place],
-        least: rounded_down(n, sum),
-        most: rounded_up(n, sum),
+        least: round_down(n, sum),
+        most: round_up(n, sum),
     }
-}
-
-// Paid less taken is the total, which is between the two.
-fn holds(partner: Partner) -> bool {
-    if wrapping_add_u64(partner.taken, partner.total) != partner.paid {
-        return false;
-    }
-    if partner.total < partner.least {
-        return false;
-    }
-    partner.total <= partner.most
-}
-
-fn put_moved(out: &mut [u8], at: usize, partner: Partner) -> usize {
-    let behind = put_named(out, at, b" weight ", partner.weight);
-    let behind = put_named(out, behind, b" paid ", partner.paid);
-    put_named(out, behind, b" taken ", partner.taken)
 }
 
 fn put_total(out: &mut [u8], at: usize, partner: Partner) -> usize {
     let behind = put_named(out, at, b" total ", partner.total);
     let behind = put_named(out, behind, b" least ", partner.least);
     let behind = put_named(out, behind, b" most ", partner.most);
-    put_end(out, behind)
+    put_bytes(out, behind, b"\n")
 }
 
 fn put_partner(out: &mut [u8], at: usize, place: usize, partner: Partner) -> usize {
     let behind = put_named(out, at, b"partner ", place as u64);
-    let behind = put_moved(out, behind, partner);
+    let behind = put_named(out, behind, b" weight ", partner.weight);
+    let behind = put_named(out, behind, b" paid ", partner.paid);
+    let behind = put_named(out, behind, b" taken ", partner.taken);
     put_total(out, behind, partner)
 }
 
@@ -131,43 +113,4 @@ pub(crate) fn put_partners(
         i += 1;
     }
     behind
-}
-
-// The first place for which something fails: past the last where nothing does.
-fn first_failing(account: Account, totals: [u64; Book::PARTNERS]) -> usize {
-    let mut i = 0;
-    while i < Book::PARTNERS {
-        if !holds(partner_of(account, totals, i)) {
-            return i;
-        }
-        i += 1;
-    }
-    Book::PARTNERS
-}
-
-// The last partner's place.
-fn last_of(count: u8) -> u64 {
-    if count == 0 {
-        return 0;
-    }
-    count as u64 - 1
-}
-
-// Where the totals alone don't add to the net total, the last partner is named, at whom the adding ends.
-pub(crate) fn put_check(
-    out: &mut [u8],
-    at: usize,
-    account: Account,
-    totals: [u64; Book::PARTNERS],
-) -> usize {
-    let failing = first_failing(account, totals);
-    if failing < Book::PARTNERS {
-        let behind = put_named(out, at, b"check FAILED ", failing as u64);
-        return put_end(out, behind);
-    }
-    if sum_from(&totals, 0) != magnitude(account.book.net) {
-        let behind = put_named(out, at, b"check FAILED ", last_of(account.book.count));
-        return put_end(out, behind);
-    }
-    put_bytes(out, at, b"check ok\n")
 }

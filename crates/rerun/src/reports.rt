@@ -1,25 +1,42 @@
 // The report on a book.
 use crate::accounts::Account;
 use crate::accounts::Opening;
-use crate::partners::put_check;
+use crate::checks::Check;
+use crate::checks::check_of;
+use crate::gathering::Gathering;
 use crate::partners::put_partners;
 use crate::tally::NUMBERS;
 use crate::tally::sum_from;
-use crate::texts::put_end;
-use crate::texts::put_named;
-use crate::texts::put_weights;
 use book::Book;
+use console::put_named;
 use lines::put_bytes;
 use whole::magnitude;
 
-// Place 0 has those that were accepted.
-fn refused_of(times: [u64; NUMBERS]) -> u64 {
-    sum_from(&times, 1)
+// Where a report ends, and what it says: a check that failed, a line that was refused or not understood, an opening too.
+pub struct Report {
+    pub at: usize,
+    pub failed: bool,
+    pub blemished: bool,
+}
+
+// The first of the weights, as many as are asked for.
+fn put_weights(out: &mut [u8], at: usize, weights: [u32; Book::PARTNERS], count: usize) -> usize {
+    let mut behind = put_bytes(out, at, b" weights");
+    let mut i = 0;
+    while i < Book::PARTNERS {
+        if count <= i {
+            return behind;
+        }
+        behind = put_named(out, behind, b" ", weights[i] as u64);
+        i += 1;
+    }
+    behind
 }
 
 fn put_heading(out: &mut [u8], at: usize, opening: Opening, book: Book) -> usize {
     match opening {
         Opening::Nothing => put_bytes(out, at, b"book none"),
+        Opening::Unknown => put_bytes(out, at, b"book not understood"),
         Opening::Refused(number) => put_named(out, at, b"book refused ", number as u64),
         Opening::Accepted => {
             let behind = put_named(out, at, b"book ", book.currency.0 as u64);
@@ -29,81 +46,128 @@ fn put_heading(out: &mut [u8], at: usize, opening: Opening, book: Book) -> usize
     }
 }
 
-fn put_lines(out: &mut [u8], at: usize, times: [u64; NUMBERS], unknown: u64) -> usize {
-    let behind = put_named(out, at, b"\nlines ", times[0]);
-    let behind = put_named(out, behind, b" accepted ", refused_of(times));
+// The first line that was not understood, where there is one.
+fn put_unknown(out: &mut [u8], at: usize, unknown: u64, first: u64) -> usize {
+    if unknown == 0 {
+        return at;
+    }
+    let behind = put_named(out, at, b"not understood first ", first);
+    put_bytes(out, behind, b"\n")
+}
+
+// How many lines were accepted, refused and not understood.
+fn put_lines(out: &mut [u8], at: usize, accepted: u64, refused: u64, unknown: u64) -> usize {
+    let behind = put_named(out, at, b"\nlines ", accepted);
+    let behind = put_named(out, behind, b" accepted ", refused);
     let behind = put_named(out, behind, b" refused ", unknown);
     put_bytes(out, behind, b" not understood\n")
 }
 
-fn put_refused(out: &mut [u8], at: usize, number: usize, times: u64) -> usize {
+fn put_refused(out: &mut [u8], at: usize, number: usize, times: u64, first: u64) -> usize {
     if times == 0 {
         return at;
     }
     let behind = put_named(out, at, b"refused ", number as u64);
     let behind = put_named(out, behind, b" times ", times);
-    put_end(out, behind)
+    let behind = put_named(out, behind, b" first ", first);
+    put_bytes(out, behind, b"\n")
 }
 
 // A line for each number that was given.
-fn put_numbers(out: &mut [u8], at: usize, times: [u64; NUMBERS]) -> usize {
+fn put_numbers(out: &mut [u8], at: usize, times: [u64; NUMBERS], first: [u64; NUMBERS]) -> usize {
     let mut behind = at;
     let mut i = 1;
     while i < NUMBERS {
-        behind = put_refused(out, behind, i, times[i]);
+        behind = put_refused(out, behind, i, times[i], first[i]);
         i += 1;
     }
     behind
+}
+
+fn put_check(out: &mut [u8], at: usize, check: Check) -> usize {
+    match check {
+        Check::Well => put_bytes(out, at, b"check ok\n"),
+        Check::Failed(place) => {
+            let behind = put_named(out, at, b"check FAILED ", place);
+            put_bytes(out, behind, b"\n")
+        },
+    }
 }
 
 fn put_sums(out: &mut [u8], at: usize, sums: [u64; 2], net: u64) -> usize {
     let behind = put_named(out, at, b"posted ", sums[0]);
     let behind = put_named(out, behind, b" refunded ", sums[1]);
     let behind = put_named(out, behind, b" net ", net);
-    put_end(out, behind)
+    put_bytes(out, behind, b"\n")
 }
 
-fn put_totals(out: &mut [u8], at: usize, account: Account) -> usize {
+// The sums, the partners and the check of a book that was opened as asked.
+fn put_totals(out: &mut [u8], at: usize, account: Account, blemished: bool) -> Report {
     let sums = account.tally.sums;
-    let book = account.book;
-    let running = book.totals();
+    let running = account.book.totals();
     let totals = running.totals;
-    let behind = put_sums(out, at, sums, magnitude(book.net));
+    let behind = put_sums(out, at, sums, magnitude(account.book.net));
     let behind = put_partners(out, behind, account, totals);
-    put_check(out, behind, account, totals)
+    let check = check_of(account, totals);
+    let failed = if let Check::Well = check { false } else { true };
+    Report {
+        at: put_check(out, behind, check),
+        failed,
+        blemished,
+    }
 }
 
-fn put_all(out: &mut [u8], at: usize, account: Account, unknown: u64) -> usize {
+fn is_accepted(opening: Opening) -> bool {
+    if let Opening::Accepted = opening {
+        true
+    } else {
+        false
+    }
+}
+
+// Before any opening there is a report only where a line is counted; place 0 has the calls that were accepted.
+fn is_silent(opening: Opening, counted: u64, unknown: u64) -> bool {
+    if counted != 0 {
+        return false;
+    }
+    if unknown != 0 {
+        return false;
+    }
+    if let Opening::Nothing = opening {
+        true
+    } else {
+        false
+    }
+}
+
+pub(crate) fn put_report(out: &mut [u8], at: usize, account: Account, lines: Gathering) -> Report {
     let opening = account.opening;
     let book = account.book;
     let times = account.tally.times;
+    let first = account.tally.first;
+    let refused = sum_from(&times, 1);
+    if is_silent(opening, sum_from(&times, 0), lines.unknown) {
+        return Report {
+            at,
+            failed: false,
+            blemished: false,
+        };
+    }
     let behind = put_heading(out, at, opening, book);
-    let behind = put_lines(out, behind, times, unknown);
-    let behind = put_numbers(out, behind, times);
-    match opening {
-        Opening::Accepted => put_totals(out, behind, account),
-        _ => behind,
+    let behind = put_lines(out, behind, times[0], refused, lines.unknown);
+    let behind = put_unknown(out, behind, lines.unknown, lines.first);
+    let behind = put_numbers(out, behind, times, first);
+    if !is_accepted(opening) {
+        return Report {
+            at: behind,
+            failed: false,
+            blemished: true,
+        };
     }
-}
-
-fn counts_none(times: [u64; NUMBERS], unknown: u64) -> bool {
-    if times[0] != 0 {
-        return false;
-    }
-    if refused_of(times) != 0 {
-        return false;
-    }
-    unknown == 0
-}
-
-// Before any opening there is a report only where a line is counted.
-pub(crate) fn put_report(out: &mut [u8], at: usize, account: Account, unknown: u64) -> usize {
-    let opening = account.opening;
-    if let Opening::Nothing = opening {
-        let times = account.tally.times;
-        if counts_none(times, unknown) {
-            return at;
-        }
-    }
-    put_all(out, at, account, unknown)
+    let blemished = if refused == 0 {
+        lines.unknown != 0
+    } else {
+        true
+    };
+    put_totals(out, behind, account, blemished)
 }

@@ -1,27 +1,31 @@
+-- The buffer keeps its length. Assumes nothing.
 use mathlib.Core.Path.{_≡_}
-use Prim.Native.Nat.{_≤_, _-_}
+use Prim.Native.Nat.{_-_}
 use lib.ListN.{length}
 use borrow.Author.Needs.{needs}
 use Rattle.desk.proofs.answers.put_places.Statement.{statement}
 use Rattle.desk.proofs.answers.put_places.Tie as tie
 
 abbrev Inv-loop : tie.InvT-loop
-Inv-loop out₀ at numbers behind₀ i₀ out behind i = (i ≤ 16) × (length out ≡ length out₀)
+Inv-loop out₀ at numbers behind₀ i₀ t7 out behind i = length out ≡ length out₀
 
 abbrev μ-loop : tie.MeasureT-loop
-μ-loop out₀ at numbers behind₀ i₀ out behind i = 16 - i
+μ-loop out₀ at numbers behind₀ i₀ t7 out behind i = 16 - i
 
 loop-holds : tie.Need-loop-holds Inv-loop μ-loop
 loop-holds c = search needs
 
-mul-put-count : tie.Need-mul-put-count Inv-loop μ-loop
-mul-put-count c = search needs
+slice-aggregate-put-named : tie.Need-slice-aggregate-put-named Inv-loop μ-loop
+slice-aggregate-put-named c = search needs
 
-array-read-put-count : tie.Need-array-read-put-count Inv-loop μ-loop
-array-read-put-count c = search needs
+mul-put-named : tie.Need-mul-put-named Inv-loop μ-loop
+mul-put-named c = search needs
 
-put-count-requires : tie.Need-put-count-requires Inv-loop μ-loop
-put-count-requires c κs = search needs
+array-read-put-named : tie.Need-array-read-put-named Inv-loop μ-loop
+array-read-put-named c = search needs
+
+put-named-requires : tie.Need-put-named-requires Inv-loop μ-loop
+put-named-requires c κs = search needs
 
 add-i : tie.Need-add-i Inv-loop μ-loop
 add-i c = search needs
@@ -45,9 +49,10 @@ put-places-spec =
     Inv-loop
     μ-loop
     loop-holds
-    mul-put-count
-    array-read-put-count
-    put-count-requires
+    slice-aggregate-put-named
+    mul-put-named
+    array-read-put-named
+    put-named-requires
     add-i
     loop-less
     loop-again

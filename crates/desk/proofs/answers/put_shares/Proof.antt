@@ -1,3 +1,4 @@
+-- The buffer keeps its length. Assumes nothing.
 use mathlib.Core.Path.{_≡_}
 use Prim.Native.Nat.{_-_}
 use lib.ListN.{length}
@@ -11,8 +12,11 @@ Inv-loop out₀ at shares count behind₀ i₀ out behind i = length out ≡ len
 abbrev μ-loop : tie.MeasureT-loop
 μ-loop out₀ at shares count behind₀ i₀ out behind i = count - i
 
-put-accepted-requires : tie.Need-put-accepted-requires Inv-loop μ-loop
-put-accepted-requires c κs = search needs
+slice-aggregate-put-bytes : tie.Need-slice-aggregate-put-bytes Inv-loop μ-loop
+slice-aggregate-put-bytes c = search needs
+
+put-bytes-requires : tie.Need-put-bytes-requires Inv-loop μ-loop
+put-bytes-requires c κs = search needs
 
 loop-holds : tie.Need-loop-holds Inv-loop μ-loop
 loop-holds c = search needs
@@ -53,7 +57,8 @@ put-shares-spec =
     (tie.spec
     Inv-loop
     μ-loop
-    put-accepted-requires
+    slice-aggregate-put-bytes
+    put-bytes-requires
     loop-holds
     same-length
     returns

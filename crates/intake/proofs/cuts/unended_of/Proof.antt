@@ -17,11 +17,11 @@ sub-if2 c = search needs
 
 returns-2 : tie.Need-returns-2
 unfolding unendedOf
-returns-2 c = rw (c .before .before .if1 .left, lt-ltb _ _ (c .if2 .taken))
+returns-2 c = rw (c .before .if1 .left, lt-ltb _ _ (c .if2 .taken))
 
 returns-3 : tie.Need-returns-3
 unfolding unendedOf
-returns-3 c = rw (c .before .before .if1 .left, le-ltb _ _ (c .if2 .left))
+returns-3 c = rw (c .before .if1 .left, le-ltb _ _ (c .if2 .left))
 
 pub unended-of-spec : {M : Type 1} → statement M
 unended-of-spec = tie.close (tie.spec returns add-if2 sub-if2 returns-2 returns-3)

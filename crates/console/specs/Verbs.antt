@@ -1,0 +1,97 @@
+-- The words that a line may begin with, as lists of their bytes, and how many numbers stand behind each. Cited by `verb_of` and `takes`.
+-- Assumes nothing.
+use mathlib.Core.Bool.{Bool, true, false, cond, _&&_}
+use mathlib.Core.List.{List, [], _∷_}
+use Prim.Native.Nat.{ℕ}
+use lib.Dec.{eqb, leb}
+use lib.ListN.{length}
+use Rattle.console.specs.declared.Verb.{Verb}
+use Rattle.console.specs.declared.Verb.the-variants.{
+  Round,
+  Sum,
+  Order,
+  Negate,
+  Rescale,
+  Convert,
+  Interest,
+  TaxNet,
+  TaxGross,
+  Share,
+  Open,
+  Post,
+  Refund,
+  Totals,
+  Unknown,
+}
+
+unfoldable pub sameBytes : List ℕ → List ℕ → Bool
+sameBytes [] [] = true
+sameBytes [] (b ∷ bs) = false
+sameBytes (a ∷ rest) [] = false
+sameBytes (a ∷ rest) (b ∷ bs) = eqb a b && sameBytes rest bs
+
+-- post, open
+abbrev pub ofFour : List ℕ → Verb
+ofFour word =
+    cond (sameBytes word (112 ∷ 111 ∷ 115 ∷ 116 ∷ [])) Post
+    (cond (sameBytes word (111 ∷ 112 ∷ 101 ∷ 110 ∷ [])) Open
+    Unknown)
+
+-- round, order, share
+abbrev pub ofFive : List ℕ → Verb
+ofFive word =
+    cond (sameBytes word (114 ∷ 111 ∷ 117 ∷ 110 ∷ 100 ∷ [])) Round
+    (cond (sameBytes word (111 ∷ 114 ∷ 100 ∷ 101 ∷ 114 ∷ [])) Order
+    (cond (sameBytes word (115 ∷ 104 ∷ 97 ∷ 114 ∷ 101 ∷ [])) Share
+    Unknown))
+
+-- refund, negate, totals
+abbrev pub ofSix : List ℕ → Verb
+ofSix word =
+    cond (sameBytes word (114 ∷ 101 ∷ 102 ∷ 117 ∷ 110 ∷ 100 ∷ [])) Refund
+    (cond (sameBytes word (110 ∷ 101 ∷ 103 ∷ 97 ∷ 116 ∷ 101 ∷ [])) Negate
+    (cond (sameBytes word (116 ∷ 111 ∷ 116 ∷ 97 ∷ 108 ∷ 115 ∷ [])) Totals
+    Unknown))
+
+-- rescale, convert, tax-net
+abbrev pub ofSeven : List ℕ → Verb
+ofSeven word =
+    cond (sameBytes word (114 ∷ 101 ∷ 115 ∷ 99 ∷ 97 ∷ 108 ∷ 101 ∷ [])) Rescale
+    (cond (sameBytes word (99 ∷ 111 ∷ 110 ∷ 118 ∷ 101 ∷ 114 ∷ 116 ∷ [])) Convert
+    (cond (sameBytes word (116 ∷ 97 ∷ 120 ∷ 45 ∷ 110 ∷ 101 ∷ 116 ∷ [])) TaxNet
+    Unknown))
+
+-- sum, interest, tax-gross
+abbrev pub ofOthers : List ℕ → Verb
+ofOthers word =
+    cond (sameBytes word (115 ∷ 117 ∷ 109 ∷ [])) Sum
+    (cond (sameBytes word (105 ∷ 110 ∷ 116 ∷ 101 ∷ 114 ∷ 101 ∷ 115 ∷ 116 ∷ [])) Interest
+    (cond (sameBytes word (116 ∷ 97 ∷ 120 ∷ 45 ∷ 103 ∷ 114 ∷ 111 ∷ 115 ∷ 115 ∷ [])) TaxGross
+    Unknown))
+
+-- a word is looked for among those of its length
+unfoldable pub verbOf : List ℕ → Verb
+verbOf word =
+    cond (eqb (length word) 4) (ofFour word)
+    (cond (eqb (length word) 5) (ofFive word)
+    (cond (eqb (length word) 6) (ofSix word)
+    (cond (eqb (length word) 7) (ofSeven word)
+    (ofOthers word))))
+
+-- "`share` and `open` take any count of weights"
+abbrev pub takesOf : Verb → (count : ℕ) → Bool
+takesOf Round count = eqb count 3
+takesOf Sum count = eqb count 6
+takesOf Order count = eqb count 6
+takesOf Negate count = eqb count 3
+takesOf Rescale count = eqb count 5
+takesOf Convert count = eqb count 4
+takesOf Interest count = eqb count 12
+takesOf TaxNet count = eqb count 5
+takesOf TaxGross count = eqb count 5
+takesOf Share count = leb 3 count
+takesOf Open count = leb 1 count
+takesOf Post count = eqb count 3
+takesOf Refund count = eqb count 3
+takesOf Totals count = eqb count 0
+takesOf Unknown count = false

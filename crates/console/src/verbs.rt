@@ -1,0 +1,113 @@
+// The words that a line may begin with, and how many numbers stand behind each.
+use crate::Verb;
+use check::same;
+ghost use mathlib.Core.Path.{_≡_};
+ghost use Rattle.console.specs.Verbs.{ofFour, ofFive, ofSix, ofSeven, ofOthers, verbOf, takesOf};
+
+fn of_four(word: &[u8]) -> Verb
+    ensures { λ r. ⌜ r ≡ ofFour (now (word .entry)) ⌝ }
+{
+    if same(word, b"post") {
+        return Verb::Post;
+    }
+    if same(word, b"open") {
+        return Verb::Open;
+    }
+    Verb::Unknown
+}
+
+fn of_five(word: &[u8]) -> Verb
+    ensures { λ r. ⌜ r ≡ ofFive (now (word .entry)) ⌝ }
+{
+    if same(word, b"round") {
+        return Verb::Round;
+    }
+    if same(word, b"order") {
+        return Verb::Order;
+    }
+    if same(word, b"share") {
+        return Verb::Share;
+    }
+    Verb::Unknown
+}
+
+fn of_six(word: &[u8]) -> Verb
+    ensures { λ r. ⌜ r ≡ ofSix (now (word .entry)) ⌝ }
+{
+    if same(word, b"refund") {
+        return Verb::Refund;
+    }
+    if same(word, b"negate") {
+        return Verb::Negate;
+    }
+    if same(word, b"totals") {
+        return Verb::Totals;
+    }
+    Verb::Unknown
+}
+
+fn of_seven(word: &[u8]) -> Verb
+    ensures { λ r. ⌜ r ≡ ofSeven (now (word .entry)) ⌝ }
+{
+    if same(word, b"rescale") {
+        return Verb::Rescale;
+    }
+    if same(word, b"convert") {
+        return Verb::Convert;
+    }
+    if same(word, b"tax-net") {
+        return Verb::TaxNet;
+    }
+    Verb::Unknown
+}
+
+fn of_others(word: &[u8]) -> Verb
+    ensures { λ r. ⌜ r ≡ ofOthers (now (word .entry)) ⌝ }
+{
+    if same(word, b"sum") {
+        return Verb::Sum;
+    }
+    if same(word, b"interest") {
+        return Verb::Interest;
+    }
+    if same(word, b"tax-gross") {
+        return Verb::TaxGross;
+    }
+    Verb::Unknown
+}
+
+// The verb that a word is: it is looked for among those of its length.
+pub fn verb_of(word: &[u8]) -> Verb
+    ensures { λ r. ⌜ r ≡ verbOf (now (word .entry)) ⌝ }
+{
+    match word.len() {
+        4 => of_four(word),
+        5 => of_five(word),
+        6 => of_six(word),
+        7 => of_seven(word),
+        _ => of_others(word),
+    }
+}
+
+// Whether a verb takes so many numbers: a share and an opening take any count of weights.
+pub fn takes(verb: Verb, count: usize) -> bool
+    ensures { λ r. ⌜ r ≡ takesOf verb count ⌝ }
+{
+    match verb {
+        Verb::Round => count == 3,
+        Verb::Sum => count == 6,
+        Verb::Order => count == 6,
+        Verb::Negate => count == 3,
+        Verb::Rescale => count == 5,
+        Verb::Convert => count == 4,
+        Verb::Interest => count == 12,
+        Verb::TaxNet => count == 5,
+        Verb::TaxGross => count == 5,
+        Verb::Share => 3 <= count,
+        Verb::Open => 1 <= count,
+        Verb::Post => count == 3,
+        Verb::Refund => count == 3,
+        Verb::Totals => count == 0,
+        Verb::Unknown => false,
+    }
+}

@@ -1,0 +1,128 @@
+// Line by line from a file to standard output: the bytes that are held and the answers that wait have a buffer each.
+use crate::answers::put_unknown;
+use crate::asking::answer;
+use crate::books::no_book;
+use book::Book;
+use console::FAILED;
+use console::Feed;
+use console::WELL;
+use console::Waiting;
+use console::first_feed;
+use console::make_room;
+use console::next_cut;
+use console::refill;
+use console::write_out;
+use intake::Found;
+use lines::put_bytes;
+
+// More bytes than an answer has: the longest is a comment of 4,000.
+const ANSWER: usize = 5_000;
+
+pub struct Desk {
+    pub feed: Feed,
+    pub waiting: Waiting,
+    // the current book
+    pub book: Book,
+    // there may be more to do
+    pub open: bool,
+}
+
+fn first_desk() -> Desk {
+    Desk {
+        feed: first_feed(),
+        waiting: Waiting {
+            at: 0,
+            failed: false,
+        },
+        book: no_book(),
+        open: true,
+    }
+}
+
+// With a line's answer behind those that wait.
+fn put_answer(mut desk: Desk, line: &[u8], out: &mut [u8]) -> Desk {
+    let book = desk.book;
+    let answered = answer(line, book, out, desk.waiting.at);
+    let next = answered.book;
+    let behind = put_bytes(out, answered.at, b"\n");
+    desk.book = next;
+    desk.waiting.at = behind;
+    desk
+}
+
+// With the answer to a line that is too long.
+fn put_no_answer(mut desk: Desk, out: &mut [u8]) -> Desk {
+    let behind = put_unknown(out, desk.waiting.at);
+    let behind = put_bytes(out, behind, b"\n");
+    desk.waiting.at = behind;
+    desk
+}
+
+// With the answers written before more is read, so that none waits for bytes that are slow to come.
+fn read_on(fd: i32, mut desk: Desk, text: &mut [u8], out: &[u8]) -> Desk {
+    let feed = desk.feed;
+    let waiting = desk.waiting;
+    desk.waiting = write_out(out, waiting);
+    desk.feed = refill(fd, feed, text);
+    desk
+}
+
+// With the last answers written.
+fn close(mut desk: Desk, out: &[u8]) -> Desk {
+    let waiting = desk.waiting;
+    desk.waiting = write_out(out, waiting);
+    desk.open = false;
+    desk
+}
+
+// The next thing to do: a line is answered, more bytes are read, or the end is there.
+fn turn(fd: i32, mut desk: Desk, text: &mut [u8], out: &mut [u8]) -> Desk {
+    let waiting = desk.waiting;
+    let mut feed = desk.feed;
+    let cut = next_cut(text, feed);
+    let start = cut.start;
+    let end = cut.end;
+    let next = cut.next;
+    let found = cut.found;
+    feed.intake = next;
+    desk.feed = feed;
+    desk.waiting = make_room(out, waiting, ANSWER);
+    match found {
+        Found::Line => put_answer(desk, &text[start..end], out),
+        Found::Long => put_no_answer(desk, out),
+        Found::More => read_on(fd, desk, text, out),
+        Found::Nothing => close(desk, out),
+    }
+}
+
+fn goes_on(desk: Desk) -> bool {
+    if desk.waiting.failed {
+        return false;
+    }
+    desk.open
+}
+
+// A proved loop has to end, and nothing says that a file does: the turns are counted down from a number that no run uses up.
+fn answer_all(fd: i32, text: &mut [u8], out: &mut [u8]) -> Desk {
+    let mut desk = first_desk();
+    let mut turns = u64::MAX;
+    while goes_on(desk) {
+        if turns == 0 {
+            return desk;
+        }
+        turns -= 1;
+        desk = turn(fd, desk, text, out);
+    }
+    desk
+}
+
+// Answers each line of what the descriptor reads, and answers the status.
+pub(crate) fn answer_file(fd: i32) -> u8 {
+    let mut text = io::large_buffer();
+    let mut out = io::large_buffer();
+    let desk = answer_all(fd, &mut text, &mut out);
+    if desk.waiting.failed {
+        return FAILED;
+    }
+    if desk.feed.failed { FAILED } else { WELL }
+}

@@ -1,3 +1,0 @@
-mod Meets
-mod Standing
-mod Served

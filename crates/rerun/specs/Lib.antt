@@ -1,2 +1,0 @@
-pub mod Gathers
-pub mod Stands
