@@ -116,8 +116,8 @@ def record_at(version, data, start):
     return Record(place, currency, coefficient, reason)
 
 
-def record_at_place(statement, data, index):
-    """The walk, for both sizes: record number index of a statement, counted from 0."""
+def record_of(statement, data, index):
+    """The walk, for both sizes: the statement's record of that index, from 0 on."""
     start = statement.first + index * RECORDS[statement.version].size
     return record_at(statement.version, data, start)
 
@@ -132,7 +132,7 @@ def record_is_good(record, currency):
 
 def records_are_good(statement, data):
     """The records of one known currency, and the sum right; an empty statement has none."""
-    records = [record_at_place(statement, data, index) for index in range(statement.count)]
+    records = [record_of(statement, data, index) for index in range(statement.count)]
     currency = records[0].currency if records and records[0] else None
     if not all(record_is_good(record, currency) for record in records):
         return False
@@ -186,7 +186,7 @@ class View:
         if self.place == self.statement.count:
             return None
         self.place += 1
-        return record_at_place(self.statement, self.data, self.place - 1)
+        return record_of(self.statement, self.data, self.place - 1)
 
 
 def opened_view(data, reader=read_statement):

@@ -57,6 +57,8 @@ def given_books_with_cards():
     """Rows 3, 9 and 10 of the longer record, for every call that takes a book."""
     good = new_card(post(open_book(0, (5, 3, 2))[1], eur(10)).book, (1, 1, 2)).book
     same(good, (0, 3, sixteen(1, 1, 2), 0, 2, sixteen(5, 3, 2)))
+    same(open_book(0, (5, 3, 2))[1], (0, 3, sixteen(5, 3, 2), 0, 1, sixteen()))
+    same(open_book(21, (5, 3, 2))[1], (0, 0, sixteen(), 0, 0, sixteen()))
     for book, number in (
         (good, None),
         (good._replace(card=1_001), 9),

@@ -51,6 +51,7 @@ def counts_of(data):
 
 
 def statements_of_books():
+    same(VERSION, 2 if landed(13) else 1)
     first = b"open 0 5 3 2\npost 0 2 7\nrefund 0 2 3\n"
     records = (0, [(0, 0, 4), (1, 0, 2), (2, 0, 1), (0, 0, -2), (1, 0, -1)])
     for quarter, expected in (

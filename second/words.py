@@ -1,4 +1,8 @@
-"""The words behind a line's verb: what each may be, and what the library's types hold."""
+"""The words behind a line's verb: what each may be, and what the library's types hold.
+
+A kind takes one word or more of a line and gives their value. Kinds are named in capitals,
+as the words of DESK.md are.
+"""
 
 import re
 
