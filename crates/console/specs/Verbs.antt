@@ -17,6 +17,7 @@ use Rattle.console.specs.declared.Verb.the-variants.{
   TaxNet,
   TaxGross,
   Share,
+  Vouchers,
   Open,
   Post,
   Refund,
@@ -61,13 +62,19 @@ ofSeven word =
     (cond (sameBytes word (116 ∷ 97 ∷ 120 ∷ 45 ∷ 110 ∷ 101 ∷ 116 ∷ [])) TaxNet
     Unknown))
 
--- sum, interest, tax-gross
+-- interest, vouchers
+abbrev pub ofEight : List ℕ → Verb
+ofEight word =
+    cond (sameBytes word (105 ∷ 110 ∷ 116 ∷ 101 ∷ 114 ∷ 101 ∷ 115 ∷ 116 ∷ [])) Interest
+    (cond (sameBytes word (118 ∷ 111 ∷ 117 ∷ 99 ∷ 104 ∷ 101 ∷ 114 ∷ 115 ∷ [])) Vouchers
+    Unknown)
+
+-- sum, tax-gross
 abbrev pub ofOthers : List ℕ → Verb
 ofOthers word =
     cond (sameBytes word (115 ∷ 117 ∷ 109 ∷ [])) Sum
-    (cond (sameBytes word (105 ∷ 110 ∷ 116 ∷ 101 ∷ 114 ∷ 101 ∷ 115 ∷ 116 ∷ [])) Interest
     (cond (sameBytes word (116 ∷ 97 ∷ 120 ∷ 45 ∷ 103 ∷ 114 ∷ 111 ∷ 115 ∷ 115 ∷ [])) TaxGross
-    Unknown))
+    Unknown)
 
 -- a word is looked for among those of its length
 unfoldable pub verbOf : List ℕ → Verb
@@ -76,9 +83,10 @@ verbOf word =
     (cond (eqb (length word) 5) (ofFive word)
     (cond (eqb (length word) 6) (ofSix word)
     (cond (eqb (length word) 7) (ofSeven word)
-    (ofOthers word))))
+    (cond (eqb (length word) 8) (ofEight word)
+    (ofOthers word)))))
 
--- "`share` and `open` take any count of weights"
+-- "`share` and `open` take any count of weights", and so do vouchers
 abbrev pub takesOf : Verb → (count : ℕ) → Bool
 takesOf Round count = eqb count 3
 takesOf Sum count = eqb count 6
@@ -90,6 +98,7 @@ takesOf Interest count = eqb count 12
 takesOf TaxNet count = eqb count 5
 takesOf TaxGross count = eqb count 5
 takesOf Share count = leb 3 count
+takesOf Vouchers count = leb 2 count
 takesOf Open count = leb 1 count
 takesOf Post count = eqb count 3
 takesOf Refund count = eqb count 3

@@ -42,6 +42,7 @@ pub enum Verb {
     TaxNet,
     TaxGross,
     Share,
+    Vouchers,
     Open,
     Post,
     Refund,

@@ -2,7 +2,7 @@
 use crate::Verb;
 use check::same;
 ghost use mathlib.Core.Path.{_≡_};
-ghost use Rattle.console.specs.Verbs.{ofFour, ofFive, ofSix, ofSeven, ofOthers, verbOf, takesOf};
+ghost use Rattle.console.specs.Verbs.{ofFour, ofFive, ofSix, ofSeven, ofEight, ofOthers, verbOf, takesOf};
 
 fn of_four(word: &[u8]) -> Verb
     ensures { λ r. ⌜ r ≡ ofFour (now (word .entry)) ⌝ }
@@ -61,14 +61,23 @@ fn of_seven(word: &[u8]) -> Verb
     Verb::Unknown
 }
 
+fn of_eight(word: &[u8]) -> Verb
+    ensures { λ r. ⌜ r ≡ ofEight (now (word .entry)) ⌝ }
+{
+    if same(word, b"interest") {
+        return Verb::Interest;
+    }
+    if same(word, b"vouchers") {
+        return Verb::Vouchers;
+    }
+    Verb::Unknown
+}
+
 fn of_others(word: &[u8]) -> Verb
     ensures { λ r. ⌜ r ≡ ofOthers (now (word .entry)) ⌝ }
 {
     if same(word, b"sum") {
         return Verb::Sum;
-    }
-    if same(word, b"interest") {
-        return Verb::Interest;
     }
     if same(word, b"tax-gross") {
         return Verb::TaxGross;
@@ -85,11 +94,12 @@ pub fn verb_of(word: &[u8]) -> Verb
         5 => of_five(word),
         6 => of_six(word),
         7 => of_seven(word),
+        8 => of_eight(word),
         _ => of_others(word),
     }
 }
 
-// Whether a verb takes so many numbers: a share and an opening take any count of weights.
+// Whether a verb takes so many numbers: a share, vouchers and an opening take any count of weights.
 pub fn takes(verb: Verb, count: usize) -> bool
     ensures { λ r. ⌜ r ≡ takesOf verb count ⌝ }
 {
@@ -104,6 +114,7 @@ pub fn takes(verb: Verb, count: usize) -> bool
         Verb::TaxNet => count == 5,
         Verb::TaxGross => count == 5,
         Verb::Share => 3 <= count,
+        Verb::Vouchers => 2 <= count,
         Verb::Open => 1 <= count,
         Verb::Post => count == 3,
         Verb::Refund => count == 3,

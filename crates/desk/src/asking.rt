@@ -13,6 +13,7 @@ use crate::calls::quotient_of;
 use crate::calls::rescale;
 use crate::calls::share_of;
 use crate::calls::tax_of;
+use crate::lists::vouchers_of;
 use book::Book;
 use console::Verb;
 use console::takes;
@@ -62,6 +63,10 @@ fn ask(
         Verb::Totals => put_moved(out, at, totals_of(book)),
         Verb::Share => Answered {
             at: share_of(amount, signs, values, count, out, at),
+            book,
+        },
+        Verb::Vouchers => Answered {
+            at: vouchers_of(signs, values, count, out, at),
             book,
         },
         _ => Answered {

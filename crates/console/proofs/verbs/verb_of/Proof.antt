@@ -18,6 +18,9 @@ of-six-requires c κs = search needs
 of-seven-requires : tie.Need-of-seven-requires
 of-seven-requires c κs = search needs
 
+of-eight-requires : tie.Need-of-eight-requires
+of-eight-requires c κs = search needs
+
 of-others-requires : tie.Need-of-others-requires
 of-others-requires c κs = search needs
 
@@ -39,9 +42,20 @@ returns-4 c = c .of-seven .ensures ∙ rw (c .before .match .keys4)
 
 returns-5 : tie.Need-returns-5
 unfolding verbOf
-returns-5 c =
+returns-5 c = c .of-eight .ensures ∙ rw (c .before .match .keys5)
+
+returns-6 : tie.Need-returns-6
+unfolding verbOf
+returns-6 c =
     let other = c .before .match .rest in
-    c .of-others .ensures ∙ rw (ne-eqb _ 4 (other .0 .0 .0 .1), ne-eqb _ 5 (other .0 .0 .1), ne-eqb _ 6 (other .0 .1), ne-eqb _ 7 (other .1))
+    c .of-others .ensures
+    ∙ rw (
+      ne-eqb _ 4 (other .0 .0 .0 .0 .1),
+      ne-eqb _ 5 (other .0 .0 .0 .1),
+      ne-eqb _ 6 (other .0 .0 .1),
+      ne-eqb _ 7 (other .0 .1),
+      ne-eqb _ 8 (other .1),
+    )
 
 pub verb-of-spec : {M : Type 1} → statement M
 verb-of-spec =
@@ -51,9 +65,11 @@ verb-of-spec =
     of-five-requires
     of-six-requires
     of-seven-requires
+    of-eight-requires
     of-others-requires
     returns
     returns-2
     returns-3
     returns-4
-    returns-5)
+    returns-5
+    returns-6)

@@ -1,0 +1,39 @@
+-- Each comparison says whether the word is the one that it is compared with. Assumes nothing.
+use mathlib.Core.Path.{_∙_}
+use Rattle.console.proofs.Same.{told}
+use borrow.Author.Needs.{needs}
+use Rattle.console.proofs.verbs.of_eight.Statement.{statement}
+use Rattle.console.proofs.verbs.of_eight.Tie as tie
+
+slice-aggregate-same : tie.Need-slice-aggregate-same
+slice-aggregate-same c = search needs
+
+same-requires : tie.Need-same-requires
+same-requires c κs = search needs
+
+returns : tie.Need-returns
+returns c = rw (told _ _ _ (c .before .same .ensures) ∙ c .if1 .taken)
+
+slice-aggregate-same-2 : tie.Need-slice-aggregate-same-2
+slice-aggregate-same-2 c = search needs
+
+same-requires-2 : tie.Need-same-requires-2
+same-requires-2 c κs = search needs
+
+returns-2 : tie.Need-returns-2
+returns-2 c = rw (told _ _ _ (c .before .before .before .before .same .ensures) ∙ c .before .before .before .if1 .left, told _ _ _ (c .before .same2 .ensures) ∙ c .if2 .taken)
+
+returns-3 : tie.Need-returns-3
+returns-3 c = rw (told _ _ _ (c .before .before .before .before .same .ensures) ∙ c .before .before .before .if1 .left, told _ _ _ (c .before .same2 .ensures) ∙ c .if2 .left)
+
+pub of-eight-spec : {M : Type 1} → statement M
+of-eight-spec =
+    tie.close
+    (tie.spec
+    slice-aggregate-same
+    same-requires
+    returns
+    slice-aggregate-same-2
+    same-requires-2
+    returns-2
+    returns-3)
