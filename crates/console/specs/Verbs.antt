@@ -18,6 +18,7 @@ use Rattle.console.specs.declared.Verb.the-variants.{
   TaxGross,
   Share,
   Vouchers,
+  Compound,
   Open,
   Post,
   Refund,
@@ -62,12 +63,13 @@ ofSeven word =
     (cond (sameBytes word (116 ∷ 97 ∷ 120 ∷ 45 ∷ 110 ∷ 101 ∷ 116 ∷ [])) TaxNet
     Unknown))
 
--- interest, vouchers
+-- interest, vouchers, compound
 abbrev pub ofEight : List ℕ → Verb
 ofEight word =
     cond (sameBytes word (105 ∷ 110 ∷ 116 ∷ 101 ∷ 114 ∷ 101 ∷ 115 ∷ 116 ∷ [])) Interest
     (cond (sameBytes word (118 ∷ 111 ∷ 117 ∷ 99 ∷ 104 ∷ 101 ∷ 114 ∷ 115 ∷ [])) Vouchers
-    Unknown)
+    (cond (sameBytes word (99 ∷ 111 ∷ 109 ∷ 112 ∷ 111 ∷ 117 ∷ 110 ∷ 100 ∷ [])) Compound
+    Unknown))
 
 -- sum, tax-gross
 abbrev pub ofOthers : List ℕ → Verb
@@ -99,6 +101,7 @@ takesOf TaxNet count = eqb count 5
 takesOf TaxGross count = eqb count 5
 takesOf Share count = leb 3 count
 takesOf Vouchers count = leb 2 count
+takesOf Compound count = eqb count 6
 takesOf Open count = leb 1 count
 takesOf Post count = eqb count 3
 takesOf Refund count = eqb count 3

@@ -43,6 +43,7 @@ pub enum Verb {
     TaxGross,
     Share,
     Vouchers,
+    Compound,
     Open,
     Post,
     Refund,

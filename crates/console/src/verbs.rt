@@ -70,6 +70,9 @@ fn of_eight(word: &[u8]) -> Verb
     if same(word, b"vouchers") {
         return Verb::Vouchers;
     }
+    if same(word, b"compound") {
+        return Verb::Compound;
+    }
     Verb::Unknown
 }
 
@@ -115,6 +118,7 @@ pub fn takes(verb: Verb, count: usize) -> bool
         Verb::TaxGross => count == 5,
         Verb::Share => 3 <= count,
         Verb::Vouchers => 2 <= count,
+        Verb::Compound => count == 6,
         Verb::Open => 1 <= count,
         Verb::Post => count == 3,
         Verb::Refund => count == 3,

@@ -13,6 +13,7 @@ use crate::calls::quotient_of;
 use crate::calls::rescale;
 use crate::calls::share_of;
 use crate::calls::tax_of;
+use crate::lists::compound_of;
 use crate::lists::vouchers_of;
 use book::Book;
 use console::Verb;
@@ -67,6 +68,10 @@ fn ask(
         },
         Verb::Vouchers => Answered {
             at: vouchers_of(signs, values, count, out, at),
+            book,
+        },
+        Verb::Compound => Answered {
+            at: compound_of(signs, values, out, at),
             book,
         },
         _ => Answered {

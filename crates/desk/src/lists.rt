@@ -1,6 +1,10 @@
 // The calls of document 02 that write a lent list: all its places are put, so that one that should have stayed is seen.
 use crate::answers::put_refused;
+use crate::answers::put_shares;
+use amount::Amount;
+use compound::compound;
 use console::put_named;
+use intake::amount_at;
 use intake::read_weights;
 use intake::u32_at;
 use intake::u64_at;
@@ -10,6 +14,10 @@ use vouchers::vouchers;
 use weights::MOST_WEIGHTS;
 
 // The places of the lent lists at most, and what each holds before.
+const ROWS: usize = 128;
+
+const ROW_BEFORE: i64 = -7;
+
 const PLACES: usize = 80;
 
 const PLACE_BEFORE: u32 = 77;
@@ -25,6 +33,34 @@ fn room_at(signs: &[bool], values: &[u64], place: usize, most: usize) -> usize {
     } else {
         room as usize
     }
+}
+
+// The table into the first places of the list, and all of these.
+fn put_table(
+    principal: Amount,
+    rate: u32,
+    periods: u32,
+    rows: &mut [i64],
+    room: usize,
+    out: &mut [u8],
+    at: usize,
+) -> usize {
+    if rows.len() < room {
+        return at;
+    }
+    match compound(principal, rate, periods, &mut rows[..room]) {
+        Checked::Refused(refusal) => put_refused(out, at, refusal),
+        Checked::Passed => put_shares(out, at, rows, room),
+    }
+}
+
+pub(crate) fn compound_of(signs: &[bool], values: &[u64], out: &mut [u8], at: usize) -> usize {
+    let principal = amount_at(signs, values, 0);
+    let rate = u32_at(signs, values, 3);
+    let periods = u32_at(signs, values, 4);
+    let room = room_at(signs, values, 5, ROWS);
+    let mut rows = [ROW_BEFORE; ROWS];
+    put_table(principal, rate, periods, &mut rows, room, out, at)
 }
 
 // The first of the places, as many as are asked for.

@@ -51,6 +51,9 @@ enum-told-15 c = search needs
 enum-told-16 : tie.Need-enum-told-16
 enum-told-16 c = search needs
 
+enum-told-17 : tie.Need-enum-told-17
+enum-told-17 c = search needs
+
 returns : tie.Need-returns
 returns c = rw (c .enum-told .given .1)
 
@@ -99,6 +102,9 @@ returns-15 c = rw (c .enum-told15 .given .1)
 returns-16 : tie.Need-returns-16
 returns-16 c = rw (c .enum-told16 .given .1)
 
+returns-17 : tie.Need-returns-17
+returns-17 c = rw (c .enum-told17 .given .1)
+
 pub takes-spec : {M : Type 1} → statement M
 takes-spec =
     tie.close
@@ -119,6 +125,7 @@ takes-spec =
     enum-told-14
     enum-told-15
     enum-told-16
+    enum-told-17
     returns
     returns-2
     returns-3
@@ -134,4 +141,5 @@ takes-spec =
     returns-13
     returns-14
     returns-15
-    returns-16)
+    returns-16
+    returns-17)
