@@ -16,6 +16,7 @@ use Rattle.console.specs.declared.Verb.the-variants.{
   Interest,
   TaxNet,
   TaxGross,
+  NetFor,
   Share,
   Vouchers,
   Compound,
@@ -55,13 +56,14 @@ ofSix word =
     (cond (sameBytes word (116 ∷ 111 ∷ 116 ∷ 97 ∷ 108 ∷ 115 ∷ [])) Totals
     Unknown))
 
--- rescale, convert, tax-net
+-- rescale, convert, tax-net, net-for
 abbrev pub ofSeven : List ℕ → Verb
 ofSeven word =
     cond (sameBytes word (114 ∷ 101 ∷ 115 ∷ 99 ∷ 97 ∷ 108 ∷ 101 ∷ [])) Rescale
     (cond (sameBytes word (99 ∷ 111 ∷ 110 ∷ 118 ∷ 101 ∷ 114 ∷ 116 ∷ [])) Convert
     (cond (sameBytes word (116 ∷ 97 ∷ 120 ∷ 45 ∷ 110 ∷ 101 ∷ 116 ∷ [])) TaxNet
-    Unknown))
+    (cond (sameBytes word (110 ∷ 101 ∷ 116 ∷ 45 ∷ 102 ∷ 111 ∷ 114 ∷ [])) NetFor
+    Unknown)))
 
 -- interest, vouchers, compound
 abbrev pub ofEight : List ℕ → Verb
@@ -99,6 +101,7 @@ takesOf Convert count = eqb count 4
 takesOf Interest count = eqb count 12
 takesOf TaxNet count = eqb count 5
 takesOf TaxGross count = eqb count 5
+takesOf NetFor count = eqb count 5
 takesOf Share count = leb 3 count
 takesOf Vouchers count = leb 2 count
 takesOf Compound count = eqb count 6

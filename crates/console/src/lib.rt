@@ -41,6 +41,7 @@ pub enum Verb {
     Interest,
     TaxNet,
     TaxGross,
+    NetFor,
     Share,
     Vouchers,
     Compound,

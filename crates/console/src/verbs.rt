@@ -58,6 +58,9 @@ fn of_seven(word: &[u8]) -> Verb
     if same(word, b"tax-net") {
         return Verb::TaxNet;
     }
+    if same(word, b"net-for") {
+        return Verb::NetFor;
+    }
     Verb::Unknown
 }
 
@@ -116,6 +119,7 @@ pub fn takes(verb: Verb, count: usize) -> bool
         Verb::Interest => count == 12,
         Verb::TaxNet => count == 5,
         Verb::TaxGross => count == 5,
+        Verb::NetFor => count == 5,
         Verb::Share => 3 <= count,
         Verb::Vouchers => 2 <= count,
         Verb::Compound => count == 6,

@@ -9,6 +9,7 @@ use crate::books::totals_of;
 use crate::calls::by_two;
 use crate::calls::convert_to;
 use crate::calls::interest_of;
+use crate::calls::net_for;
 use crate::calls::quotient_of;
 use crate::calls::rescale;
 use crate::calls::share_of;
@@ -42,6 +43,7 @@ fn call(verb: Verb, signs: &[bool], values: &[u64]) -> Reply {
         Verb::Convert => convert_to(signs, values),
         Verb::Interest => interest_of(signs, values),
         Verb::TaxNet | Verb::TaxGross => tax_of(verb, signs, values),
+        Verb::NetFor => net_for(signs, values),
         _ => Reply::Unknown,
     }
 }

@@ -23,6 +23,7 @@ use rounding::Quotient;
 use rounding::plain_quotient;
 use sharing::share;
 use tax::Taxed;
+use tax::net_for_gross;
 use tax::tax_from_gross;
 use tax::tax_from_net;
 ghost use Prim.Native.Nat.{_+_, _<_, _^_};
@@ -117,6 +118,17 @@ pub(crate) fn tax_of(verb: Verb, signs: &[bool], values: &[u64]) -> Reply {
     match tax_from_gross(amount, rate, mode) {
         Taxed::Refused(refusal) => Reply::Refused(refusal),
         Taxed::Value(split) => Reply::Two(split.tax.coefficient, split.net.coefficient),
+    }
+}
+
+pub(crate) fn net_for(signs: &[bool], values: &[u64]) -> Reply {
+    let gross = amount_at(signs, values, 0);
+    match net_for_gross(gross, u32_at(signs, values, 3), u8_at(signs, values, 4)) {
+        Taxed::Refused(refusal) => Reply::Refused(refusal),
+        Taxed::Value(split) => {
+            let net = split.net;
+            Reply::Value(net)
+        },
     }
 }
 
