@@ -69,7 +69,6 @@ pub use feeds::refill;
 pub use outs::make_room;
 pub use outs::put_named;
 pub use outs::write_out;
-pub use starts::close_source;
 pub use starts::end_with;
 pub use starts::open_source;
 pub use verbs::takes;

@@ -5,10 +5,15 @@ use crate::MISUSED;
 use crate::Source;
 use libc::STDERR_FILENO;
 use libc::STDIN_FILENO;
+ghost use mathlib.Core.Path.{_≡_};
+ghost use Prim.Native.Nat.{_+_, _≤_, _<_};
+ghost use Rattle.console.specs.Sources.{endOf};
 
 const STATUS_FILENO: i32 = 3;
 
-fn open_file() -> Source {
+fn open_file() -> Source
+    ensures { λ r. ⌜ (2 ≤ endOf r) × (endOf r ≤ 3) ⌝ }
+{
     let mut path = io::buffer();
     let length = os::arg(1, &mut path);
     if os::errno() != 0 {
@@ -23,7 +28,10 @@ fn open_file() -> Source {
     Source::From(fd)
 }
 
-pub fn open_source() -> Source {
+// What the program reads; where there is nothing to read, it ends with status 2 or 3.
+pub fn open_source() -> Source
+    ensures { λ r. ⌜ (2 ≤ endOf r) × (endOf r ≤ 3) ⌝ }
+{
     match os::arg_count() {
         0 | 1 => Source::From(STDIN_FILENO),
         2 => open_file(),
@@ -34,16 +42,14 @@ pub fn open_source() -> Source {
     }
 }
 
-// A closed descriptor says no status: that is no error.
-pub fn end_with(status: u8) {
-    let mut digit = 48;
-    if status < 10 {
-        digit = 48 + status;
+// Writes the status, and answers its digit. That the descriptor is closed, or is the file that was read, is no error.
+pub fn end_with(status: u8) -> u8
+    ensures { λ r. ⌜ (status < 10 → r ≡ 48 + status) ⌝ }
+{
+    if 9 < status {
+        return 48;
     }
+    let digit = 48 + status;
     io::write_all(STATUS_FILENO, &[digit]);
-}
-
-// Descriptor 3 is free for the status where it was the file's.
-pub fn close_source(fd: i32) {
-    libc::close(fd);
+    digit
 }

@@ -7,18 +7,17 @@ mod lists;
 mod turns;
 
 use console::Source;
-use console::close_source;
 use console::end_with;
 use console::open_source;
 use turns::answer_file;
 
 fn main() {
     match open_source() {
-        Source::Nowhere(status) => end_with(status),
-        Source::From(fd) => {
-            let status = answer_file(fd);
-            close_source(fd);
+        Source::Nowhere(status) => {
             end_with(status);
+        },
+        Source::From(fd) => {
+            end_with(answer_file(fd));
         },
     }
 }

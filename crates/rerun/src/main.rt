@@ -9,18 +9,17 @@ mod tally;
 mod turns;
 
 use console::Source;
-use console::close_source;
 use console::end_with;
 use console::open_source;
 use turns::run_file;
 
 fn main() {
     match open_source() {
-        Source::Nowhere(status) => end_with(status),
-        Source::From(fd) => {
-            let status = run_file(fd);
-            close_source(fd);
+        Source::Nowhere(status) => {
             end_with(status);
+        },
+        Source::From(fd) => {
+            end_with(run_file(fd));
         },
     }
 }

@@ -177,38 +177,28 @@ fn put_end(out: &mut [u8], at: usize, lines: u64, failed: bool, unended: bool) -
     put_bytes(out, behind, b" lines\n")
 }
 
-// With the last line put, and all reports written.
-fn close(mut rerun: Rerun, out: &mut [u8]) -> Rerun {
-    let at = rerun.at;
-    let mut reports = rerun.reports;
-    let waiting = reports.waiting;
+// With the last line put, and all reports written, unless writing failed before.
+fn close(waiting: Waiting, lines: u64, failed: bool, unended: bool, out: &mut [u8]) -> Waiting {
     if waiting.failed {
-        return rerun;
+        return waiting;
     }
-    let mut waiting = make_room(out, waiting, REPORT);
-    waiting.at = put_end(out, waiting.at, at.lines, at.feed.failed, at.unended);
-    reports.waiting = write_out(out, waiting);
-    rerun.reports = reports;
-    rerun
+    let mut last = make_room(out, waiting, REPORT);
+    last.at = put_end(out, last.at, lines, failed, unended);
+    write_out(out, last)
 }
 
-// The status of the end.
-fn status_of(rerun: Rerun) -> u8 {
-    let at = rerun.at;
-    let reports = rerun.reports;
-    if at.feed.failed {
+// The status of the end: reading or writing failed, a check did, or a line was not accepted or has no end.
+fn status_of(broken: bool, failed: bool, blemished: bool, unended: bool) -> u8 {
+    if broken {
         return FAILED;
     }
-    if reports.waiting.failed {
-        return FAILED;
-    }
-    if reports.failed {
+    if failed {
         return CHECK_FAILED;
     }
-    if reports.blemished {
+    if blemished {
         return BLEMISHED;
     }
-    if at.unended { BLEMISHED } else { WELL }
+    if unended { BLEMISHED } else { WELL }
 }
 
 // Nothing is read yet, and there is no book.
@@ -340,5 +330,11 @@ pub(crate) fn run_file(fd: i32) -> u8 {
         &mut payouts,
         &mut numbers,
     );
-    status_of(close(rerun, &mut out))
+    let at = rerun.at;
+    let reports = rerun.reports;
+    let unread = at.feed.failed;
+    let waiting = reports.waiting;
+    let last = close(waiting, at.lines, unread, at.unended, &mut out);
+    let broken = if unread { true } else { last.failed };
+    status_of(broken, reports.failed, reports.blemished, at.unended)
 }
