@@ -141,6 +141,7 @@ int main(int argc, char **argv)
     row("round, mixed modes", PAIRS, round_agrees, round_ours, round_plain);
     row("convert, old to old", AMOUNTS, convert_agrees, convert_ours, convert_plain);
     row("interest", AMOUNTS, interest_agrees, interest_ours, interest_plain);
+    row("net for a gross, over our tax from gross", LISTS, net_for_agrees, net_for_ours, tax_gross_ours);
     row("compound, 120 periods", LISTS, compound_agrees, compound_ours, compound_plain);
     set_count(16);
     row("share 16", LISTS, share_agrees, share_ours, share_plain);

@@ -14,18 +14,21 @@
 
 static const uint8_t own_digits[21] = {2, 0, 2, 0, 2, 2, 0, 0, 2, 2, 0, 2, 0, 2, 2, 2, 2, 2, 2, 2, 2};
 
-/* the current book; `refused` is -1 before any opening */
+/* the current book; `refused` is NONE before any opening, ASTRAY after one that is not understood */
+enum { NONE = -1, ASTRAY = -2 };
 static struct {
     int refused;
     int64_t currency, net;
     int count;
     uint64_t weights[PARTNERS], sum;
-} book = {.refused = -1};
+} book = {.refused = NONE};
 static uint16_t cycle[WEIGHT_SUM][PARTNERS];
 static uint64_t totals[PARTNERS];
 
 /* what is counted of it: place 0 of `times` has what was accepted; postings are side 0, refunds side 1 */
 static uint64_t times[14], unknown, sums[2], payouts[2][PARTNERS];
+/* the line that is read, and the first line of each number and of what is not understood */
+static uint64_t lines, first[14], first_unknown;
 
 /* the numbers of a line behind its word; how many they are, -1 where a word is none */
 static int numbers(const char *p, int64_t *out, int room)
@@ -82,7 +85,8 @@ static void open_book(const int64_t *given, int count)
     memset(times, 0, sizeof times);
     memset(sums, 0, sizeof sums);
     memset(payouts, 0, sizeof payouts);
-    unknown = 0;
+    memset(first, 0, sizeof first);
+    unknown = first_unknown = 0;
     for (int i = 1; i < count && i <= PARTNERS; i++)
         book.sum += book.weights[i - 1] = given[i] < 0 || given[i] > WEIGHT_SUM ? WEIGHT_SUM + 1 : (uint64_t)given[i];
     book.refused = given[0] < 0 || given[0] > 20 ? 4 : count < 2 || count > PARTNERS + 1 || book.sum < 1 || book.sum > WEIGHT_SUM ? 9 : 0;
@@ -120,7 +124,8 @@ static int refusal(int side, int64_t currency, int64_t scale, int64_t n)
 static void call(int side, const int64_t *amount)
 {
     int number = refusal(side, amount[0], amount[1], amount[2]);
-    times[number]++;
+    if (!times[number]++)
+        first[number] = lines;
     if (number)
         return;
     sums[side] += (uint64_t)amount[2];
@@ -147,7 +152,7 @@ static void put_partners(void)
             failing = i;
         added += total;
     }
-    if (failing < 0 && added != (uint64_t)book.net)
+    if (failing < 0 && (added != (uint64_t)book.net || sums[0] - sums[1] != (uint64_t)book.net))
         failing = book.count - 1;
     if (failing < 0)
         puts("check ok");
@@ -160,10 +165,12 @@ static void report(void)
     uint64_t refused = 0;
     for (int i = 1; i < 14; i++)
         refused += times[i];
-    if (book.refused < 0 && times[0] + refused + unknown == 0)
+    if (book.refused == NONE && times[0] + refused + unknown == 0)
         return;
-    if (book.refused < 0)
+    if (book.refused == NONE)
         printf("book none");
+    else if (book.refused == ASTRAY)
+        printf("book not understood");
     else if (book.refused)
         printf("book refused %d", book.refused);
     else {
@@ -172,13 +179,21 @@ static void report(void)
             printf(" %" PRIu64, book.weights[i]);
     }
     printf("\nlines %" PRIu64 " accepted %" PRIu64 " refused %" PRIu64 " not understood\n", times[0], refused, unknown);
+    if (unknown)
+        printf("not understood first %" PRIu64 "\n", first_unknown);
     for (int i = 1; i < 14; i++)
         if (times[i])
-            printf("refused %d times %" PRIu64 "\n", i, times[i]);
+            printf("refused %d times %" PRIu64 " first %" PRIu64 "\n", i, times[i], first[i]);
     if (book.refused)
         return;
     printf("posted %" PRIu64 " refunded %" PRIu64 " net %" PRId64 "\n", sums[0], sums[1], book.net);
     put_partners();
+}
+
+static void not_understood(void)
+{
+    if (!unknown++)
+        first_unknown = lines;
 }
 
 static void answer(char *line)
@@ -191,11 +206,17 @@ static void answer(char *line)
         call(0, given);
     else if (length == 6 && memcmp(word, "refund", 6) == 0 && count == 3)
         call(1, given);
-    else if (length == 4 && memcmp(word, "open", 4) == 0 && count >= 1) {
+    else if (length == 4 && memcmp(word, "open", 4) == 0) {
         report();
+        if (count < 1)
+            given[0] = -1;
         open_book(given, count);
+        if (count < 1) {
+            book.refused = ASTRAY;
+            not_understood();
+        }
     } else
-        unknown++;
+        not_understood();
 }
 
 int main(void)
@@ -203,20 +224,23 @@ int main(void)
     char *line = NULL;
     size_t room = 0;
     ssize_t end;
-    uint64_t lines = 0;
+    int unended = 0;
     while ((end = getline(&line, &room, stdin)) > 0) {
-        if (line[end - 1] == '\n')
+        unended = line[end - 1] != '\n';
+        if (!unended)
             line[--end] = '\0';
+        lines++;
         if (end && line[end - 1] == '\r')
             line[--end] = '\0';
         if (end > LONGEST)
-            unknown++;
+            not_understood();
         else if (end && line[0] != '#')
             answer(line);
-        if (++lines % 1000000 == 0)
+        if (lines % 1000000 == 0)
             fprintf(stderr, "%" PRIu64 " lines\n", lines);
     }
     report();
+    printf("end %" PRIu64 " lines%s\n", lines, unended ? ", the last one unended" : "");
     free(line);
     return 0;
 }

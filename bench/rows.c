@@ -142,6 +142,29 @@ int compound_agrees(void)
     return ok;
 }
 
+void net_for_ours(void)
+{
+    for (int i = 0; i < LISTS; i++)
+        sink += (uint64_t)mkb_net_for(principal_of(&lists[i]), rate_of(&lists[i]), MKB_HALF_UP).net.coefficient;
+}
+
+void tax_gross_ours(void)
+{
+    for (int i = 0; i < LISTS; i++)
+        sink += (uint64_t)mkb_tax_from_gross(principal_of(&lists[i]), rate_of(&lists[i]), MKB_HALF_UP).net.coefficient;
+}
+
+int net_for_agrees(void)
+{
+    int ok = 1;
+    for (int i = 0; i < LISTS; i++) {
+        mkb_split net = mkb_net_for(principal_of(&lists[i]), rate_of(&lists[i]), MKB_HALF_UP);
+        mkb_split gross = mkb_tax_from_gross(principal_of(&lists[i]), rate_of(&lists[i]), MKB_HALF_UP);
+        ok &= net.refusal == MKB_NO_NET || (!net.refusal && net.net.coefficient == gross.net.coefficient);
+    }
+    return ok;
+}
+
 void share_ours(void)
 {
     int64_t out[64];

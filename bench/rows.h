@@ -18,11 +18,13 @@ void set_book(uint32_t W, int partners, int skewed, int unit);
 
 void round_ours(void), round_plain(void), convert_ours(void), convert_plain(void), interest_ours(void), interest_plain(void);
 void compound_ours(void), compound_plain(void);
+/* the net for a gross, against the library's own tax from gross */
+void net_for_ours(void), tax_gross_ours(void);
 void share_ours(void), share_plain(void), vouchers_ours(void), vouchers_plain(void), post_ours(void), post_plain(void);
 /* a run of so many calls on the book */
 void set_calls(size_t n);
 void run_ours(void), run_plain(void);
 int run_agrees(void);
 
-int round_agrees(void), convert_agrees(void), interest_agrees(void), compound_agrees(void), share_agrees(void), vouchers_agree(void), post_agrees(void);
+int round_agrees(void), convert_agrees(void), interest_agrees(void), compound_agrees(void), net_for_agrees(void), share_agrees(void), vouchers_agree(void), post_agrees(void);
 #endif
