@@ -1,4 +1,5 @@
 pub mod Scales
+pub mod Raised
 pub mod Limits
 pub mod Factors
 pub mod ByWorth

@@ -1,5 +1,5 @@
 -- A coefficient at another scale, by sign and magnitude: a product with a power of ten keeps the sign and multiplies the magnitude, and the
--- magnitude of a sum is at most the sum of the magnitudes; so an i64 holds each of them. Assumes nothing.
+-- magnitude of a sum is between the difference and the sum of the magnitudes. Assumes nothing.
 use mathlib.Core.Path.{_≡_, refl, sym, _∙_, ap, ap₂}
 use mathlib.Core.Bool.{Bool, false, not}
 use Prim.Native.Nat.{ℕ, suc, _+_, _-_, _*_, _<_, _≤_, _^_}
@@ -47,35 +47,27 @@ magnitude-sum (pos a) (negsuc b) = difference a (suc b)
 magnitude-sum (negsuc a) (pos b) = omega (arith, difference b (suc a))
 magnitude-sum (negsuc a) (negsuc b) = omega arith
 
+-- and a term's is at most the sum's and the other term's together
+least : (a b : ℕ) → (a ≤ magnitudeOf (subℕ a b) + b) × (b ≤ magnitudeOf (subℕ a b) + a)
+least a b = go (decLt a b)
+  where
+    go : Dec (a < b) → (a ≤ magnitudeOf (subℕ a b) + b) × (b ≤ magnitudeOf (subℕ a b) + a)
+    go (yes less) = rw (lt-ltb a b less) (omega arith, omega arith)
+    go (no f) = rw (le-ltb a b (omega arith)) (omega arith, omega arith)
+
+pub magnitude-term : (x y : ℤ) → magnitudeOf x ≤ magnitudeOf (x +ℤ y) + magnitudeOf y
+magnitude-term (pos a) (pos b) = omega arith
+magnitude-term (pos a) (negsuc b) = least a (suc b) .0
+magnitude-term (negsuc a) (pos b) = least b (suc a) .1
+magnitude-term (negsuc a) (negsuc b) = omega arith
+
 -- what an i64 holds
 pub fits : (z : ℤ) → magnitudeOf z < 2 ^ 63 → SFits w64 z
 fits (pos n) h = record { sfits = h }
 fits (negsuc n) h = record { sfits = omega arith }
 
--- a magnitude of at most L times a power of ten up to 10^6
-pub raised-most : (m k : ℕ) → m ≤ largest → k ≤ lastScale → m * 10 ^ k ≤ largest * 1000000
-raised-most m k h l = mul-le-mul h (ten-most k l)
-
--- and their sum
-pub sum-fits : (x y : ℤ) (j k : ℕ) → magnitudeOf x ≤ largest → j ≤ lastScale → magnitudeOf y ≤ largest → k ≤ lastScale
-    → SFits w64 (x *ℤ pos (10 ^ j) +ℤ y *ℤ pos (10 ^ k))
-sum-fits x y j k h a l b =
-    let u = x *ℤ pos (10 ^ j) in
-    let v = y *ℤ pos (10 ^ k) in
-    fits (u +ℤ v)
-    (omega (arith, magnitude-sum u v, magnitude-product x (10 ^ j), magnitude-product y (10 ^ k), raised-most (magnitudeOf x) j h a, raised-most (magnitudeOf y) k l b))
-
--- a raised coefficient r as the machine reads it back, from a coefficient and a scale that it read itself
-pub read-raised : (z r : ℤ) (s g t : ℕ) → SFits w64 z → mag r < 2 ^ 63 → g ≡ t → r ≡ toZ w64 (ofZ w64 z) *ℤ pos (10 ^ (g - s))
-    → toZ w64 (ofZ w64 r) ≡ z *ℤ pos (10 ^ (t - s))
-read-raised z r s g t h ok scale e =
-    read-back r ok ∙ e ∙ ap₂ (λ (x : ℤ) (u : ℕ). x *ℤ pos (10 ^ (u - s))) (toZ-ofZ w64 z h) scale
-
--- the product, the opposite and the rounded quotient as a program makes them, from a sign and a magnitude
+-- the opposite and the rounded quotient as a program makes them, from a sign and a magnitude
 module _ (z : ℤ) (sign : Bool) (m : ℕ) where
-  pub held-product : (f : ℕ) → sign ≡ negative z → m ≡ magnitudeOf z * f → m < 2 ^ 63 → heldSigned sign m ≡ z *ℤ pos f
-  held-product f signs magnitudes h = held-within sign m h ∙ ap₂ signedOf signs magnitudes ∙ sym (product z f)
-
   pub held-opposite : sign ≡ not (negative z) → m ≡ magnitudeOf z → m < 2 ^ 63 → heldSigned sign m ≡ negℤ z
   held-opposite signs magnitudes h =
       held-within sign m h ∙ ap₂ signedOf signs magnitudes ∙ signed-opposite (negative z) (magnitudeOf z) ∙ ap negℤ (sign-and-magnitude z)

@@ -20,9 +20,9 @@ abbrev pub meansAmount : Answer → Said Amount
 meansAmount (Value a) = gives a
 meansAmount (Refused r) = refuses (numberOf r) (blamedOf r)
 
--- "The largest magnitude of a coefficient, called L, is 99,999,999,999"; "a scale from 0 to 6"
+-- "The largest magnitude of a coefficient, called L" is by document 02, Ask 7: "L rises to 999,999,999,999,999 everywhere"; "a scale from 0 to 6"
 abbrev pub largest : ℕ
-largest = 99999999999
+largest = 999999999999999
 
 abbrev pub lastScale : ℕ
 lastScale = 6

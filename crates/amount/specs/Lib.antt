@@ -1,3 +1,4 @@
 pub mod Amounts
 pub mod Sum
 pub mod Rescaling
+pub mod Raising

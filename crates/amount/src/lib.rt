@@ -16,7 +16,7 @@ pub struct Amount {
 
 impl Amount {
     // The largest magnitude of a coefficient.
-    pub const L: u64 = 99_999_999_999;
+    pub const L: u64 = 999_999_999_999_999;
     // The largest scale.
     pub const SCALE: u8 = 6;
 }

@@ -23,6 +23,7 @@ ghost use Rattle.refusal.specs.Rows.{checkOf};
 ghost use Rattle.whole.specs.Whole.{magnitudeOf};
 ghost use Rattle.rounding.specs.Leaf.{rounded};
 ghost use Rattle.amount.specs.Amounts.{largest, lastScale, meansAmount};
+ghost use Rattle.amount.specs.Raising.{nearer};
 ghost use Rattle.amount.specs.Rescaling.{rescaleRows, rescaleByRule, rescaleSaid};
 
 // Rows 2, 3 and 4 at an amount of scale s and magnitude m in the currency c, and at the new scale t.
@@ -56,10 +57,10 @@ fn lowered(rule: Rule, coefficient: i64, places: u8) -> i64
     )
 }
 
-// A coefficient taken from one scale to another: exact to a greater one, rounded to a smaller.
+// A coefficient taken from one scale to another: raised to a greater one, rounded to a smaller.
 fn moved(rule: Rule, coefficient: i64, from: u8, to: u8) -> i64
     requires { ⌜ (magnitudeOf coefficient ≤ largest) × (from ≤ lastScale) × (to ≤ lastScale) ⌝ }
-    ensures { λ r. ⌜ r ≡ cond (leb from to) (coefficient *ℤ pos (10 ^ (to - from))) (rounded rule coefficient (10 ^ (from - to))) ⌝ }
+    ensures { λ r. ⌜ r ≡ cond (leb from to) (nearer (coefficient *ℤ pos (10 ^ (to - from)))) (rounded rule coefficient (10 ^ (from - to))) ⌝ }
 {
     if from <= to {
         raised(coefficient, from, to)

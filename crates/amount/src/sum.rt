@@ -11,13 +11,14 @@ use whole::is_negative;
 use whole::magnitude;
 use whole::signed;
 ghost use mathlib.Core.Path.{_≡_};
-ghost use Prim.Native.Nat.{_-_, _≤_, _^_, max};
+ghost use Prim.Native.Nat.{_-_, _*_, _≤_, _^_, max};
 ghost use lib.IntN.{pos, negℤ, _+ℤ_, _*ℤ_};
 ghost use mir.Syntax.{w64};
 ghost use mir.Val.{SFits};
 ghost use Rattle.refusal.specs.Rows.{checkOf};
 ghost use Rattle.whole.specs.Whole.{magnitudeOf};
 ghost use Rattle.amount.specs.Amounts.{largest, lastScale, meansAmount};
+ghost use Rattle.amount.specs.Raising.{nearest, nearer};
 ghost use Rattle.amount.specs.Sum.{pairRows, sumSaid, negateSaid};
 
 // Rows 2 to 5 at two amounts: their scales s and t, their coefficients' magnitudes m and n, their currency numbers c and d.
@@ -55,14 +56,26 @@ pub(crate) fn greater(s: u8, t: u8) -> u8
     if s < t { t } else { s }
 }
 
-// A coefficient taken from one scale to a greater one: its magnitude is at most L times 10^6, which an i64 holds.
+// So far from 0 that no amount within L, added to it, brings it back to L.
+const FAR: u64 = 2 * Amount::L + 1;
+
+// A magnitude with so many zeros more, or FAR where it is over that.
+fn raised_magnitude(m: u64, places: u8) -> u64
+    requires { ⌜ places ≤ lastScale ⌝ }
+    ensures { λ r. ⌜ r ≡ nearest (m * 10 ^ places) ⌝ }
+{
+    let tens = power_of_ten(places);
+    if FAR / tens < m { FAR } else { m * tens }
+}
+
+// A coefficient taken from one scale to a greater one, at most FAR from 0: what is over L stays over L, beside any amount that it is added to or compared with.
 pub(crate) fn raised(coefficient: i64, from: u8, to: u8) -> i64
-    requires { ⌜ (magnitudeOf coefficient ≤ largest) × (from ≤ to) × (to ≤ lastScale) ⌝ }
-    ensures { λ r. ⌜ r ≡ coefficient *ℤ pos (10 ^ (to - from)) ⌝ }
+    requires { ⌜ (from ≤ to) × (to ≤ lastScale) ⌝ }
+    ensures { λ r. ⌜ r ≡ nearer (coefficient *ℤ pos (10 ^ (to - from))) ⌝ }
 {
     signed(
         is_negative(coefficient),
-        magnitude(coefficient) * power_of_ten(to - from),
+        raised_magnitude(magnitude(coefficient), to - from),
     )
 }
 
@@ -73,10 +86,10 @@ fn add(x: i64, y: i64) -> i64
     x + y
 }
 
-// The sum of a coefficient x of scale s and a coefficient y of scale t, at the greater of the two scales.
+// The sum of a coefficient x of scale s and a coefficient y of scale t, at the greater of the two scales, where each is raised to.
 fn total(x: i64, s: u8, y: i64, t: u8) -> i64
-    requires { ⌜ (magnitudeOf x ≤ largest) × (s ≤ lastScale) × (magnitudeOf y ≤ largest) × (t ≤ lastScale) ⌝ }
-    ensures { λ r. ⌜ r ≡ x *ℤ pos (10 ^ (max s t - s)) +ℤ y *ℤ pos (10 ^ (max s t - t)) ⌝ }
+    requires { ⌜ (s ≤ lastScale) × (t ≤ lastScale) ⌝ }
+    ensures { λ r. ⌜ r ≡ nearer (x *ℤ pos (10 ^ (max s t - s))) +ℤ nearer (y *ℤ pos (10 ^ (max s t - t))) ⌝ }
 {
     let scale = greater(s, t);
     add(raised(x, s, scale), raised(y, t, scale))

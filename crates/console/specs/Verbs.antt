@@ -1,6 +1,6 @@
 -- The words that a line may begin with, as lists of their bytes, and how many numbers stand behind each. Cited by `verb_of` and `takes`.
 -- Assumes nothing.
-use mathlib.Core.Bool.{Bool, true, false, cond, _&&_}
+use mathlib.Core.Bool.{Bool, true, false, cond, _&&_, _||_}
 use mathlib.Core.List.{List, [], _∷_}
 use Prim.Native.Nat.{ℕ}
 use lib.Dec.{eqb, leb}
@@ -90,14 +90,14 @@ verbOf word =
     (cond (eqb (length word) 8) (ofEight word)
     (ofOthers word)))))
 
--- "`share` and `open` take any count of weights", and so do vouchers
+-- "`share` and `open` take any count of weights", and so do vouchers; "`round MODE N D` stays, and is N x 1 / D"; `convert` "without STEP it is 3"
 abbrev pub takesOf : Verb → (count : ℕ) → Bool
-takesOf Round count = eqb count 3
+takesOf Round count = eqb count 3 || eqb count 4
 takesOf Sum count = eqb count 6
 takesOf Order count = eqb count 6
 takesOf Negate count = eqb count 3
 takesOf Rescale count = eqb count 5
-takesOf Convert count = eqb count 4
+takesOf Convert count = eqb count 4 || eqb count 5
 takesOf Interest count = eqb count 12
 takesOf TaxNet count = eqb count 5
 takesOf TaxGross count = eqb count 5

@@ -2,6 +2,8 @@
 use crate::Verb;
 use check::same;
 ghost use mathlib.Core.Path.{_≡_};
+ghost use mathlib.Core.Bool.{_||_};
+ghost use lib.Dec.{eqb};
 ghost use Rattle.console.specs.Verbs.{ofFour, ofFive, ofSix, ofSeven, ofEight, ofOthers, verbOf, takesOf};
 
 fn of_four(word: &[u8]) -> Verb
@@ -105,17 +107,28 @@ pub fn verb_of(word: &[u8]) -> Verb
     }
 }
 
-// Whether a verb takes so many numbers: a share, vouchers and an opening take any count of weights.
+// Whether a count is one of two.
+fn is_either(count: usize, few: usize, more: usize) -> bool
+    ensures { λ r. ⌜ r ≡ (eqb count few || eqb count more) ⌝ }
+{
+    if count == few {
+        return true;
+    }
+    count == more
+}
+
+// Whether a verb takes so many numbers: a quotient's second factor and a conversion's decimals may be left out, and a share, vouchers and an
+// opening take any count of weights.
 pub fn takes(verb: Verb, count: usize) -> bool
     ensures { λ r. ⌜ r ≡ takesOf verb count ⌝ }
 {
     match verb {
-        Verb::Round => count == 3,
+        Verb::Round => is_either(count, 3, 4),
         Verb::Sum => count == 6,
         Verb::Order => count == 6,
         Verb::Negate => count == 3,
         Verb::Rescale => count == 5,
-        Verb::Convert => count == 4,
+        Verb::Convert => is_either(count, 4, 5),
         Verb::Interest => count == 12,
         Verb::TaxNet => count == 5,
         Verb::TaxGross => count == 5,

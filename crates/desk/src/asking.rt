@@ -30,17 +30,17 @@ use lines::put_bytes;
 // The numbers of a line that are kept: an amount and one weight more than a sharing takes, which is more than any other call takes.
 const NUMBERS: usize = 68;
 
-// A call that needs no book and takes a fixed count of numbers, which are there.
-fn call(verb: Verb, signs: &[bool], values: &[u64]) -> Reply {
+// A call that needs no book, with its numbers, of which there are `count`.
+fn call(verb: Verb, count: usize, signs: &[bool], values: &[u64]) -> Reply {
     match verb {
-        Verb::Round => quotient_of(signs, values),
+        Verb::Round => quotient_of(signs, values, count),
         Verb::Sum | Verb::Order | Verb::Negate => by_two(
             verb,
             amount_at(signs, values, 0),
             amount_at(signs, values, 3),
         ),
         Verb::Rescale => rescale(signs, values),
-        Verb::Convert => convert_to(signs, values),
+        Verb::Convert => convert_to(signs, values, count),
         Verb::Interest => interest_of(signs, values),
         Verb::TaxNet | Verb::TaxGross => tax_of(verb, signs, values),
         Verb::NetFor => net_for(signs, values),
@@ -77,7 +77,7 @@ fn ask(
             book,
         },
         _ => Answered {
-            at: put_reply(out, at, call(verb, signs, values)),
+            at: put_reply(out, at, call(verb, count, signs, values)),
             book,
         },
     }

@@ -11,6 +11,7 @@ use calendar::day_count;
 use console::Verb;
 use currency::Currency;
 use euro::convert;
+use euro::convert_by;
 use intake::amount_at;
 use intake::i64_at;
 use intake::read_weights;
@@ -33,10 +34,17 @@ const MOST: usize = 64;
 
 const WEIGHTS: usize = MOST + 1;
 
-pub(crate) fn quotient_of(signs: &[bool], values: &[u64]) -> Reply {
-    let n = i64_at(signs, values, 1);
-    let d = u64_at(signs, values, 2);
-    match plain_quotient(u8_at(signs, values, 0), n, d) {
+// A quotient of a product where there are four numbers; of three, the second factor is 1.
+pub(crate) fn quotient_of(signs: &[bool], values: &[u64], count: usize) -> Reply {
+    let mode = u8_at(signs, values, 0);
+    let a = i64_at(signs, values, 1);
+    let mut b = 1;
+    let mut d = u64_at(signs, values, 2);
+    if count == 4 {
+        b = i64_at(signs, values, 2);
+        d = u64_at(signs, values, 3);
+    }
+    match plain_quotient(mode, a, b, d) {
         Quotient::Refused(refusal) => Reply::Refused(refusal),
         Quotient::Value(x) => Reply::Whole(x),
     }
@@ -72,9 +80,13 @@ pub(crate) fn rescale(signs: &[bool], values: &[u64]) -> Reply {
     reply_of(amount.rescale(scale, mode))
 }
 
-pub(crate) fn convert_to(signs: &[bool], values: &[u64]) -> Reply {
+// By the euro step's decimals where there are five numbers.
+pub(crate) fn convert_to(signs: &[bool], values: &[u64], count: usize) -> Reply {
     let amount = amount_at(signs, values, 0);
     let to = Currency(u8_at(signs, values, 3));
+    if count == 5 {
+        return reply_of(convert_by(amount, to, u8_at(signs, values, 4)));
+    }
     reply_of(convert(amount, to))
 }
 

@@ -17,40 +17,40 @@ use Rattle.amount.specs.declared.Amount.{Amount}
 use Rattle.amount.specs.Amounts.{overL}
 use Rattle.amount.proofs.ExactlyWhen.{ExactlyWhen, by-its-rows}
 use Rattle.euro.specs.Steps.{toEuro, fromEuro, cents, stepDecimals}
-use Rattle.euro.specs.Conversion.{convertRows, settled, exchanged, converted, convertSaid}
+use Rattle.euro.specs.Conversion.{convertRows, settled, exchanged, converted, convertBySaid, convertSaid}
 
--- the euro step between two old units
-abbrev pub stepOf : Amount → ℤ
-stepOf a = toEuro (lineOf (a .currency)) stepDecimals (a .coefficient)
+-- the euro step between two old units, at so many decimals
+abbrev pub stepOf : ℕ → Amount → ℤ
+stepOf decimals a = toEuro (lineOf (a .currency)) decimals (a .coefficient)
 
 -- an amount in a currency, at its own digits
 abbrev pub made : Currency → ℤ → Amount
 made to n = record { currency = to; scale = lineOf to .digits; coefficient = n }
 
 -- the amount that is given where no row holds
-abbrev pub resultOf : Amount → Currency → Amount
-resultOf a to =
+abbrev pub resultOf : ℕ → Amount → Currency → Amount
+resultOf decimals a to =
     cond (same (a .currency) to) a
     (made to
     (cond (same (a .currency) EUR) (fromEuro (lineOf to) cents (a .coefficient))
-    (cond (same to EUR) (toEuro (lineOf (a .currency)) cents (a .coefficient)) (fromEuro (lineOf to) stepDecimals (stepOf a)))))
+    (cond (same to EUR) (toEuro (lineOf (a .currency)) cents (a .coefficient)) (fromEuro (lineOf to) decimals (stepOf decimals a)))))
 
 -- from an old unit to another
 abbrev pub oldToOld : (from to : Currency) → Bool
 oldToOld from to = not (same from to) && (not (same from EUR) && not (same to EUR))
 
 -- "the result, the euro step .. has a magnitude over L"
-abbrev pub limitRows : Amount → Currency → List Row
-limitRows a to =
-    row Limit (oldToOld (a .currency) to && overL (magnitudeOf (stepOf a)))
-    ∷ row Limit (overL (magnitudeOf (resultOf a to .coefficient)))
+abbrev pub limitRows : ℕ → Amount → Currency → List Row
+limitRows decimals a to =
+    row Limit (oldToOld (a .currency) to && overL (magnitudeOf (stepOf decimals a)))
+    ∷ row Limit (overL (magnitudeOf (resultOf decimals a to .coefficient)))
     ∷ []
 
-abbrev pub givenRows : Amount → Currency → List Row
-givenRows a to = convertRows (a .scale) (magnitudeOf (a .coefficient)) (a .currency) to
+abbrev pub givenRows : ℕ → Amount → Currency → List Row
+givenRows decimals a to = convertRows decimals (a .scale) (magnitudeOf (a .coefficient)) (a .currency) to
 
-abbrev pub allRows : Amount → Currency → List Row
-allRows a to = givenRows a to ++ limitRows a to
+abbrev pub allRows : ℕ → Amount → Currency → List Row
+allRows decimals a to = givenRows decimals a to ++ limitRows decimals a to
 
 -- two values that agree where the rows let pass are said alike
 agree : {A : Type 0} (rows : List Row) (v w : Said A) → (checkOf rows ≡ Passed → v ≡ w) → firstRow rows v ≡ firstRow rows w
@@ -59,9 +59,9 @@ agree (row r true ∷ rows) v w h = refl
 agree (row r false ∷ rows) v w h = agree rows v w h
 
 -- what passed row 3
-within : (scale m : ℕ) (from to : Currency) → checkOf (convertRows scale m from to) ≡ Passed → overL m ≡ false
+within : (decimals scale m : ℕ) (from to : Currency) → checkOf (convertRows decimals scale m from to) ≡ Passed → overL m ≡ false
 unfolding convertRows
-within scale m from to e = clear (convertRows scale m from to) e .1 .1 .0
+within decimals scale m from to e = clear (convertRows decimals scale m from to) e .1 .1 .1 .1 .0
 
 -- the four cases of a conversion: the same currency, from the euro, to the euro, old to old
 cases : (a : Amount) (to : Currency) (x y step z : ℤ) (same one other : Bool) → overL (magnitudeOf (a .coefficient)) ≡ false
@@ -79,15 +79,19 @@ cases a to x y step z false false false h =
     sym (behind (gives (made to z)) (row Limit (overL (magnitudeOf step)) ∷ []) (row Limit (overL (magnitudeOf z)) ∷ []))
 
 -- what the promise says is the first of these rows that holds, else the result
-pub convert-said : (a : Amount) (to : Currency) → convertSaid a to ≡ firstRow (allRows a to) (gives (resultOf a to))
-unfolding convertSaid converted exchanged
-convert-said a to =
-    agree (givenRows a to) (converted a to) (firstRow (limitRows a to) (gives (resultOf a to)))
-    (λ passed. cases a to (fromEuro (lineOf to) cents (a .coefficient)) (toEuro (lineOf (a .currency)) cents (a .coefficient)) (stepOf a)
-    (fromEuro (lineOf to) stepDecimals (stepOf a)) (same (a .currency) to) (same (a .currency) EUR) (same to EUR)
-    (within (a .scale) (magnitudeOf (a .coefficient)) (a .currency) to passed))
-    ∙ sym (behind (gives (resultOf a to)) (givenRows a to) (limitRows a to))
+pub convert-by-said : (a : Amount) (to : Currency) (decimals : ℕ) → convertBySaid a to decimals ≡ firstRow (allRows decimals a to) (gives (resultOf decimals a to))
+unfolding convertBySaid converted exchanged
+convert-by-said a to decimals =
+    agree (givenRows decimals a to) (converted decimals a to) (firstRow (limitRows decimals a to) (gives (resultOf decimals a to)))
+    (λ passed. cases a to (fromEuro (lineOf to) cents (a .coefficient)) (toEuro (lineOf (a .currency)) cents (a .coefficient)) (stepOf decimals a)
+    (fromEuro (lineOf to) decimals (stepOf decimals a)) (same (a .currency) to) (same (a .currency) EUR) (same to EUR)
+    (within decimals (a .scale) (magnitudeOf (a .coefficient)) (a .currency) to passed))
+    ∙ sym (behind (gives (resultOf decimals a to)) (givenRows decimals a to) (limitRows decimals a to))
 
-pub convert-exactly-when : (a : Amount) (to : Currency) → ExactlyWhen (convertSaid a to) (allRows a to)
+pub convert-by-exactly-when : (a : Amount) (to : Currency) (decimals : ℕ) → ExactlyWhen (convertBySaid a to decimals) (allRows decimals a to)
 unfolding convertRows
-convert-exactly-when a to = by-its-rows (record { by-rows = convert-said a to; rises = tt })
+convert-by-exactly-when a to decimals = by-its-rows (record { by-rows = convert-by-said a to decimals; rises = tt })
+
+pub convert-exactly-when : (a : Amount) (to : Currency) → ExactlyWhen (convertSaid a to) (allRows stepDecimals a to)
+unfolding convertSaid
+convert-exactly-when a to = convert-by-exactly-when a to stepDecimals

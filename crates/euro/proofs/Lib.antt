@@ -5,5 +5,6 @@ pub mod Opposite
 pub mod SameCurrency
 pub mod ExactlyWhen
 pub mod Unique
+pub mod BaseStep
 pub mod Lines
 pub mod ThereAndBack

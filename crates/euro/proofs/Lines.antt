@@ -12,7 +12,7 @@ use Rattle.currency.specs.Digits.{notOwnDigits}
 use Rattle.currency.specs.Names.{EUR, DEM, FRF, IEP, ITL}
 use Rattle.amount.specs.declared.Amount.{Amount}
 use Rattle.euro.specs.Steps.{toEuro, fromEuro, cents, stepDecimals}
-use Rattle.euro.specs.Conversion.{convertRows, exchanged, converted, convertSaid}
+use Rattle.euro.specs.Conversion.{convertRows, exchanged, converted, convertBySaid, convertSaid}
 
 -- n units of a currency's own digits
 abbrev amountOf : Currency → (n : ℕ) → Amount
@@ -24,12 +24,12 @@ Gives from n to m = convertSaid (amountOf from n) to ≡ gives (amountOf to m)
 
 -- 100.00 DEM to EUR: 51.13
 pub dem-to-eur : Gives DEM 10000 EUR 5113
-unfolding restOf isOdd rounded roundedMagnitude notOwnDigits lineOf toEuro fromEuro convertRows exchanged converted convertSaid
+unfolding restOf isOdd rounded roundedMagnitude notOwnDigits lineOf toEuro fromEuro convertRows exchanged converted convertBySaid convertSaid
 dem-to-eur = refl
 
 -- 100.00 DEM to FRF: 335.38 (euro step 51.129)
 pub dem-to-frf : Gives DEM 10000 FRF 33538
-unfolding restOf isOdd rounded roundedMagnitude notOwnDigits lineOf toEuro fromEuro convertRows exchanged converted convertSaid
+unfolding restOf isOdd rounded roundedMagnitude notOwnDigits lineOf toEuro fromEuro convertRows exchanged converted convertBySaid convertSaid
 dem-to-frf = refl
 
 pub dem-to-frf-step : toEuro (lineOf DEM) stepDecimals (pos 10000) ≡ pos 51129
@@ -38,21 +38,21 @@ dem-to-frf-step = refl
 
 -- 1,000,000.00 DEM to EUR: 511,291.88
 pub million-dem-to-eur : Gives DEM 100000000 EUR 51129188
-unfolding restOf isOdd rounded roundedMagnitude notOwnDigits lineOf toEuro fromEuro convertRows exchanged converted convertSaid
+unfolding restOf isOdd rounded roundedMagnitude notOwnDigits lineOf toEuro fromEuro convertRows exchanged converted convertBySaid convertSaid
 million-dem-to-eur = refl
 
 -- 1,000,000 ITL: 516.46 EUR
 pub million-itl-to-eur : Gives ITL 1000000 EUR 51646
-unfolding restOf isOdd rounded roundedMagnitude notOwnDigits lineOf toEuro fromEuro convertRows exchanged converted convertSaid
+unfolding restOf isOdd rounded roundedMagnitude notOwnDigits lineOf toEuro fromEuro convertRows exchanged converted convertBySaid convertSaid
 million-itl-to-eur = refl
 
 -- 0.02 EUR to IEP: 0.02; back: 0.03
 pub eur-to-iep : Gives EUR 2 IEP 2
-unfolding restOf isOdd rounded roundedMagnitude notOwnDigits lineOf toEuro fromEuro convertRows exchanged converted convertSaid
+unfolding restOf isOdd rounded roundedMagnitude notOwnDigits lineOf toEuro fromEuro convertRows exchanged converted convertBySaid convertSaid
 eur-to-iep = refl
 
 pub iep-to-eur : Gives IEP 2 EUR 3
-unfolding restOf isOdd rounded roundedMagnitude notOwnDigits lineOf toEuro fromEuro convertRows exchanged converted convertSaid
+unfolding restOf isOdd rounded roundedMagnitude notOwnDigits lineOf toEuro fromEuro convertRows exchanged converted convertBySaid convertSaid
 iep-to-eur = refl
 
 -- "A euro step of two decimals, or none: 100.00 DEM would give 335.39 FRF"

@@ -1,32 +1,24 @@
 -- A step by sign and magnitude, as a program takes it: the leaf gives the step's magnitude, or one more than 10^18 where it is over that, and the
 -- sign is the amount's. Every line's factors are within the leaf's limits. Assumes nothing.
-use mathlib.Core.Path.{_≡_, refl, sym, _∙_, ap, ap₂}
-use mathlib.Core.Bool.{Bool, true, false}
-use Prim.Native.Nat.{ℕ, zero, suc, _+_, _*_, _≤_, _<_, _^_}
+use mathlib.Core.Path.{_≡_, sym, _∙_, ap, ap₂}
+use mathlib.Core.Bool.{Bool}
+use Prim.Native.Nat.{ℕ, _+_, _*_, _≤_, _<_, _^_}
 use native.Mathlib.Nat.{mul-le-mul, mul-pos, pow-le-pow-right, one-le-pow}
 use native.Mathlib.Omega.{arith}
 use lib.IntN.{ℤ, pos, _*ℤ_}
 use Rattle.whole.specs.Whole.{magnitudeOf, signedOf}
 use Rattle.whole.proofs.Laws.{magnitude-signed}
-use Rattle.rounding.specs.declared.Rule.{Rule}
 use Rattle.rounding.specs.declared.Rule.the-variants.{HalfUp}
 use Rattle.rounding.specs.Leaf.{rounded, roundedMagnitude}
 use Rattle.rounding.specs.Product.{capped, roundedProduct}
 use Rattle.rounding.proofs.Capped.{product-within}
+use Rattle.rounding.proofs.Factors.{signed-rounds}
 use Rattle.rounding.proofs.Order.{signed-times}
-use Rattle.rounding.proofs.Value.{zero-rounds}
 use Rattle.currency.specs.declared.Line.{Line}
 use Rattle.currency.specs.Tens.{powerOfTen}
 use Rattle.currency.proofs.Tables.{Good, power-of-ten}
 use Rattle.amount.specs.Amounts.{largest}
-use Rattle.euro.specs.Steps.{toEuro, fromEuro}
-
--- a sign and a magnitude round by the magnitude
-signed-rounds : (rule : Rule) (sign : Bool) (m d : ℕ) → rounded rule (signedOf sign m) d ≡ signedOf sign (roundedMagnitude rule sign m d)
-unfolding rounded
-signed-rounds rule false m d = refl
-signed-rounds rule true zero d = rw (zero-rounds rule false d, zero-rounds rule true d)
-signed-rounds rule true (suc m) d = refl
+use Rattle.euro.specs.Steps.{toEuro, fromEuro, mostDecimals}
 
 module _ (sign : Bool) (m f d : ℕ) where
   -- so does a multiple of it
@@ -58,7 +50,7 @@ module _ (l : Line) (good : Good l) where
   pub unit-fits : l .figures * powerOfTen (l .digits) ≤ 10 ^ 18
   unit-fits = rw unit-is unit-most
 
-module _ (l : Line) (good : Good l) (decimals : ℕ) (few : decimals ≤ 3) where
+module _ (l : Line) (good : Good l) (decimals : ℕ) (few : decimals ≤ mostDecimals) where
   -- 10^(k + decimals)
   parts-is : powerOfTen (l .places + decimals) ≡ 10 ^ (l .places + decimals)
   parts-is = power-of-ten (l .places + decimals) (omega (arith, good .few-places))
@@ -68,7 +60,7 @@ module _ (l : Line) (good : Good l) (decimals : ℕ) (few : decimals ≤ 3) wher
 
   parts-most : 10 ^ (l .places + decimals) ≤ 10 ^ 18
   parts-most =
-      let few-tens : l .places + decimals ≤ 9 = omega (arith, good .few-places) in
+      let few-tens : l .places + decimals ≤ 12 = omega (arith, good .few-places) in
       omega (arith, pow-le-pow-right {n = 10} (omega arith) few-tens)
 
   module _ (sign : Bool) (m : ℕ) where

@@ -20,7 +20,7 @@ use Rattle.currency.specs.Names.{EUR}
 use Rattle.amount.specs.declared.Amount.{Amount}
 use Rattle.amount.specs.Amounts.{overL}
 use Rattle.euro.specs.Steps.{toEuro, fromEuro, cents, stepDecimals}
-use Rattle.euro.specs.Conversion.{convertRows, settled, throughEuro, exchanged, converted, convertSaid}
+use Rattle.euro.specs.Conversion.{convertRows, settled, throughEuro, exchanged, converted, convertBySaid, convertSaid}
 
 opposite-times : (n : ℤ) (f : ℕ) → negℤ n *ℤ pos f ≡ negℤ (n *ℤ pos f)
 opposite-times (pos zero) f = rw zero-mul
@@ -65,15 +65,15 @@ cond-opposite false v v' w w' e f = f
 settled-opposite : (to : Currency) (n : ℤ) → settled to (negℤ n) ≡ negatedSaid (settled to n)
 settled-opposite to n = limit-opposite n _ _ refl
 
-module _ (from to : Currency) (n : ℤ) where
-  through-opposite : throughEuro from to (negℤ n) ≡ negatedSaid (throughEuro from to n)
+module _ (decimals : ℕ) (from to : Currency) (n : ℤ) where
+  through-opposite : throughEuro decimals from to (negℤ n) ≡ negatedSaid (throughEuro decimals from to n)
   through-opposite =
-      let step = toEuro (lineOf from) stepDecimals n in
-      rw (to-euro-opposite (lineOf from) stepDecimals n)
-      (limit-opposite step (settled to (fromEuro (lineOf to) stepDecimals (negℤ step))) (settled to (fromEuro (lineOf to) stepDecimals step))
-      (ap (settled to) (from-euro-opposite (lineOf to) stepDecimals step) ∙ settled-opposite to (fromEuro (lineOf to) stepDecimals step)))
+      let step = toEuro (lineOf from) decimals n in
+      rw (to-euro-opposite (lineOf from) decimals n)
+      (limit-opposite step (settled to (fromEuro (lineOf to) decimals (negℤ step))) (settled to (fromEuro (lineOf to) decimals step))
+      (ap (settled to) (from-euro-opposite (lineOf to) decimals step) ∙ settled-opposite to (fromEuro (lineOf to) decimals step)))
 
-  exchanged-opposite : exchanged from to (negℤ n) ≡ negatedSaid (exchanged from to n)
+  exchanged-opposite : exchanged decimals from to (negℤ n) ≡ negatedSaid (exchanged decimals from to n)
   unfolding exchanged
   exchanged-opposite =
       cond-opposite (same from EUR) _ _ _ _
@@ -82,9 +82,13 @@ module _ (from to : Currency) (n : ℤ) where
       (ap (settled to) (to-euro-opposite (lineOf from) cents n) ∙ settled-opposite to (toEuro (lineOf from) cents n))
       through-opposite)
 
-pub convert-opposite : (a : Amount) (to : Currency) → convertSaid (negated a) to ≡ negatedSaid (convertSaid a to)
-unfolding convertSaid converted
-convert-opposite a to =
+pub convert-by-opposite : (a : Amount) (to : Currency) (decimals : ℕ) → convertBySaid (negated a) to decimals ≡ negatedSaid (convertBySaid a to decimals)
+unfolding convertBySaid converted
+convert-by-opposite a to decimals =
     rw (magnitude-opposite (a .coefficient))
-    (rows-opposite (convertRows (a .scale) (magnitudeOf (a .coefficient)) (a .currency) to) (converted (negated a) to) (converted a to)
-    (cond-opposite (same (a .currency) to) _ _ _ _ refl (exchanged-opposite (a .currency) to (a .coefficient))))
+    (rows-opposite (convertRows decimals (a .scale) (magnitudeOf (a .coefficient)) (a .currency) to) (converted decimals (negated a) to) (converted decimals a to)
+    (cond-opposite (same (a .currency) to) _ _ _ _ refl (exchanged-opposite decimals (a .currency) to (a .coefficient))))
+
+pub convert-opposite : (a : Amount) (to : Currency) → convertSaid (negated a) to ≡ negatedSaid (convertSaid a to)
+unfolding convertSaid
+convert-opposite a to = convert-by-opposite a to stepDecimals

@@ -27,11 +27,11 @@ use Rattle.currency.specs.Digits.{notOwnDigits}
 use Rattle.currency.specs.Names.{EUR}
 use Rattle.amount.specs.declared.Amount.{Amount}
 use Rattle.euro.specs.Steps.{toEuro, fromEuro, cents}
-use Rattle.euro.specs.Conversion.{convertRows, convertSaid}
+use Rattle.euro.specs.Conversion.{convertRows, convertBySaid}
 use Rattle.euro.specs.ThereAndBack.{unit, parts, Near, Finer}
 use Rattle.euro.proofs.Magnitudes.{step}
 use Rattle.euro.proofs.HalfUnit.{has-rate}
-use Rattle.euro.proofs.ExactlyWhen.{convert-said, made, resultOf, allRows}
+use Rattle.euro.proofs.ExactlyWhen.{convert-by-said, made, resultOf, allRows}
 
 -- on magnitudes: u is near m x A / B and b near u x B / A
 near-twice : (A B m u b : ℕ) → Nearest (m * A) B u → Nearest (u * B) A b → 2 * A * ((b - m) + (m - b)) ≤ A + B
@@ -87,26 +87,26 @@ in-cents : (scale : ℕ) → notOwnDigits EUR scale ≡ false → scale ≡ line
 unfolding notOwnDigits lineOf
 in-cents scale e = eqb-true scale 2 (not-false (eqb scale 2) e)
 
--- the calls: a euro amount, the old unit that it becomes, and the euro amount that comes back
-module _ (a x y : Amount) (to : Currency) (euro : a .currency ≡ EUR) (old : to .0 ≡ EUR .0 → ⊥)
-    (there : convertSaid a to ≡ gives x) (back : convertSaid x EUR ≡ gives y) where
+-- the calls, by any decimals of the step: a euro amount, the old unit that it becomes, and the euro amount that comes back
+module _ (k j : ℕ) (a x y : Amount) (to : Currency) (euro : a .currency ≡ EUR) (old : to .0 ≡ EUR .0 → ⊥)
+    (there : convertBySaid a to k ≡ gives x) (back : convertBySaid x EUR j ≡ gives y) where
   -- what the way there tells: no row of it holds, so the old unit is one of the table's and the euro amount is in cents
   taken : (to .0 ≤ lastCurrency) × (a .scale ≡ lineOf EUR .digits)
   unfolding convertRows
   taken =
-      let rows = clear (allRows a to) (let-pass (resultOf a to) x (allRows a to) (sym (convert-said a to) ∙ there)) in (
-        ltb-false lastCurrency (to .0) (rows .1 .1 .1 .1 .0),
+      let rows = clear (allRows k a to) (let-pass (resultOf k a to) x (allRows k a to) (sym (convert-by-said a to k) ∙ there)) in (
+        ltb-false lastCurrency (to .0) (rows .1 .1 .1 .1 .1 .1 .0),
         in-cents (a .scale) (subst (λ (c : Currency). notOwnDigits c (a .scale) ≡ false) euro (rows .1 .0)),
       )
 
   x-is : x ≡ made to (fromEuro (lineOf to) cents (a .coefficient))
   x-is =
-      sym (same-value (resultOf a to) x (allRows a to) (sym (convert-said a to) ∙ there))
+      sym (same-value (resultOf k a to) x (allRows k a to) (sym (convert-by-said a to k) ∙ there))
       ∙ simp (ap (λ (c : Currency). c .0) euro, ne-eqb (EUR .0) (to .0) (λ e. old (sym e)))
 
   y-is : y ≡ made EUR (toEuro (lineOf to) cents (fromEuro (lineOf to) cents (a .coefficient)))
   y-is =
-      sym (same-value (resultOf x EUR) y (allRows x EUR) (sym (convert-said x EUR) ∙ back))
+      sym (same-value (resultOf j x EUR) y (allRows j x EUR) (sym (convert-by-said x EUR j) ∙ back))
       ∙ rw x-is (simp (ne-eqb (to .0) (EUR .0) old))
 
   rate : 0 < lineOf to .figures

@@ -22,3 +22,10 @@ cents = 2
 
 abbrev pub stepDecimals : ℕ
 stepDecimals = 3
+
+-- document 02, Ask 7: "The caller may also choose 3 to 6 decimals for the euro step"
+abbrev pub fewestDecimals : ℕ
+fewestDecimals = 3
+
+abbrev pub mostDecimals : ℕ
+mostDecimals = 6

@@ -21,19 +21,21 @@ ghost use Rattle.whole.specs.Whole.{magnitudeOf, signedOf};
 ghost use Rattle.rounding.specs.Product.{capped};
 ghost use Rattle.amount.specs.Amounts.{largest, meansAmount};
 ghost use Rattle.currency.specs.Table.{lastCurrency, lineOf};
-ghost use Rattle.euro.specs.Steps.{toEuro, fromEuro};
-ghost use Rattle.euro.specs.Conversion.{convertRows, settled, throughEuro, exchanged, converted, convertSaid};
+ghost use Rattle.euro.specs.Steps.{toEuro, fromEuro, mostDecimals};
+ghost use Rattle.euro.specs.Conversion.{convertRows, settled, throughEuro, exchanged, converted, convertBySaid, convertSaid};
 
 // The euro's currency number.
 const EURO: u8 = 0;
 // The decimals of a euro amount.
 const CENTS: u8 = 2;
-// The decimals of the euro step between two old units.
+// The decimals of the euro step between two old units: document 01's, which is the fewest that may be chosen, and the most.
 const STEP: u8 = 3;
 
-// Old unit to euro at 2 or 3 decimals, divided by the rate; as the leaf gives it, one more than 10^18 where it is over that.
+const MOST_DECIMALS: u8 = 6;
+
+// Old unit to euro at 2 to 6 decimals, divided by the rate; as the leaf gives it, one more than 10^18 where it is over that.
 fn to_euro(from: Currency, decimals: u8, negative: bool, m: u64) -> u64
-    requires { ⌜ (from .0 ≤ lastCurrency) × (decimals ≤ 3) × (m ≤ largest) ⌝ }
+    requires { ⌜ (from .0 ≤ lastCurrency) × (decimals ≤ mostDecimals) × (m ≤ largest) ⌝ }
     ensures { λ r. ⌜ r ≡ capped (magnitudeOf (toEuro (lineOf from) decimals (signedOf negative m))) ⌝ }
 {
     let line = line_of(from);
@@ -42,9 +44,9 @@ fn to_euro(from: Currency, decimals: u8, negative: bool, m: u64) -> u64
     round_product(Rule::HalfUp, negative, m, parts, unit)
 }
 
-// Euro at 2 or 3 decimals to the old unit, multiplied by the rate; as the leaf gives it.
+// Euro at 2 to 6 decimals to the old unit, multiplied by the rate; as the leaf gives it.
 fn from_euro(to: Currency, decimals: u8, negative: bool, m: u64) -> u64
-    requires { ⌜ (to .0 ≤ lastCurrency) × (decimals ≤ 3) × (m ≤ largest) ⌝ }
+    requires { ⌜ (to .0 ≤ lastCurrency) × (decimals ≤ mostDecimals) × (m ≤ largest) ⌝ }
     ensures { λ r. ⌜ r ≡ capped (magnitudeOf (fromEuro (lineOf to) decimals (signedOf negative m))) ⌝ }
 {
     let line = line_of(to);
@@ -66,22 +68,22 @@ fn settle(to: Currency, negative: bool, m: u64) -> Answer
     })
 }
 
-// Old unit to old unit: through the euro at 3 decimals; refusal 13 where that step or the result is over L.
-fn through_euro(from: Currency, to: Currency, negative: bool, m: u64) -> Answer
-    requires { ⌜ (from .0 ≤ lastCurrency) × (to .0 ≤ lastCurrency) × (m ≤ largest) ⌝ }
-    ensures { λ r. ⌜ meansAmount r ≡ throughEuro from to (signedOf negative m) ⌝ }
+// Old unit to old unit: through the euro at so many decimals; refusal 13 where that step or the result is over L.
+fn through_euro(decimals: u8, from: Currency, to: Currency, negative: bool, m: u64) -> Answer
+    requires { ⌜ (decimals ≤ mostDecimals) × (from .0 ≤ lastCurrency) × (to .0 ≤ lastCurrency) × (m ≤ largest) ⌝ }
+    ensures { λ r. ⌜ meansAmount r ≡ throughEuro decimals from to (signedOf negative m) ⌝ }
 {
-    let step = to_euro(from, STEP, negative, m);
+    let step = to_euro(from, decimals, negative, m);
     if Amount::L < step {
         return Answer::Refused(Refusal::Limit);
     }
-    settle(to, negative, from_euro(to, STEP, negative, step))
+    settle(to, negative, from_euro(to, decimals, negative, step))
 }
 
 // Between two currencies that differ.
-fn exchange(from: Currency, to: Currency, negative: bool, m: u64) -> Answer
-    requires { ⌜ (from .0 ≤ lastCurrency) × (to .0 ≤ lastCurrency) × (m ≤ largest) ⌝ }
-    ensures { λ r. ⌜ meansAmount r ≡ exchanged from to (signedOf negative m) ⌝ }
+fn exchange(decimals: u8, from: Currency, to: Currency, negative: bool, m: u64) -> Answer
+    requires { ⌜ (decimals ≤ mostDecimals) × (from .0 ≤ lastCurrency) × (to .0 ≤ lastCurrency) × (m ≤ largest) ⌝ }
+    ensures { λ r. ⌜ meansAmount r ≡ exchanged decimals from to (signedOf negative m) ⌝ }
 {
     if from.0 == EURO {
         return settle(to, negative, from_euro(to, CENTS, negative, m));
@@ -89,16 +91,22 @@ fn exchange(from: Currency, to: Currency, negative: bool, m: u64) -> Answer
     if to.0 == EURO {
         return settle(to, negative, to_euro(from, CENTS, negative, m));
     }
-    through_euro(from, to, negative, m)
+    through_euro(decimals, from, to, negative, m)
 }
 
-fn check(scale: u8, m: u64, from: Currency, to: Currency) -> Checked
-    ensures { λ r. ⌜ r ≡ checkOf (convertRows scale m from to) ⌝ }
+fn check(decimals: u8, scale: u8, m: u64, from: Currency, to: Currency) -> Checked
+    ensures { λ r. ⌜ r ≡ checkOf (convertRows decimals scale m from to) ⌝ }
 {
     if Amount::SCALE < scale {
         return Checked::Refused(Refusal::Scale);
     }
     if not_own_digits(from, scale) {
+        return Checked::Refused(Refusal::Scale);
+    }
+    if decimals < STEP {
+        return Checked::Refused(Refusal::Scale);
+    }
+    if MOST_DECIMALS < decimals {
         return Checked::Refused(Refusal::Scale);
     }
     if Amount::L < m {
@@ -114,15 +122,16 @@ fn check(scale: u8, m: u64, from: Currency, to: Currency) -> Checked
 }
 
 // What passed the check: the amount itself within one currency, else the exchanged amount.
-fn accepted(amount: Amount, to: Currency) -> Answer
-    requires { ⌜ checkOf (convertRows (amount .scale) (magnitudeOf (amount .coefficient)) (amount .currency) to) ≡ Passed ⌝ }
-    ensures { λ r. ⌜ meansAmount r ≡ converted amount to ⌝ }
+fn accepted(decimals: u8, amount: Amount, to: Currency) -> Answer
+    requires { ⌜ checkOf (convertRows decimals (amount .scale) (magnitudeOf (amount .coefficient)) (amount .currency) to) ≡ Passed ⌝ }
+    ensures { λ r. ⌜ meansAmount r ≡ converted decimals amount to ⌝ }
 {
     let from = amount.currency;
     if from.0 == to.0 {
         return Answer::Value(amount);
     }
     exchange(
+        decimals,
         from,
         to,
         is_negative(amount.coefficient),
@@ -130,17 +139,25 @@ fn accepted(amount: Amount, to: Currency) -> Answer
     )
 }
 
-// The amount in the currency `to`, or the refusal 2, 3, 4 or 13.
-pub fn convert(amount: Amount, to: Currency) -> Answer
-    ensures { λ r. ⌜ meansAmount r ≡ convertSaid amount to ⌝ }
+// The amount in the currency `to`, by a euro step of so many decimals, or the refusal 2, 3, 4 or 13.
+pub fn convert_by(amount: Amount, to: Currency, decimals: u8) -> Answer
+    ensures { λ r. ⌜ meansAmount r ≡ convertBySaid amount to decimals ⌝ }
 {
     match check(
+        decimals,
         amount.scale,
         magnitude(amount.coefficient),
         amount.currency,
         to,
     ) {
         Checked::Refused(refusal) => Answer::Refused(refusal),
-        Checked::Passed => accepted(amount, to),
+        Checked::Passed => accepted(decimals, amount, to),
     }
+}
+
+// The amount in the currency `to`, by document 01's step of 3 decimals, or the refusal 2, 3, 4 or 13.
+pub fn convert(amount: Amount, to: Currency) -> Answer
+    ensures { λ r. ⌜ meansAmount r ≡ convertSaid amount to ⌝ }
+{
+    convert_by(amount, to, STEP)
 }

@@ -2,3 +2,4 @@
 mod conversion;
 
 pub use conversion::convert;
+pub use conversion::convert_by;

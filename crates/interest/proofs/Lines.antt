@@ -6,6 +6,7 @@ use Rattle.refusal.specs.Rows.{Said, gives, refuses}
 use Rattle.rounding.specs.Modes.{badMode, ruleOf}
 use Rattle.rounding.specs.Leaf.{restOf, isOdd, roundedMagnitude, rounded}
 use Rattle.amount.specs.declared.Amount.{Amount}
+use Rattle.amount.specs.Amounts.{largest}
 use Rattle.calendar.specs.declared.Date.{Date}
 use Rattle.calendar.specs.Calendar.{leap, monthLength, exists, daysOfMonths, daysOfYears, dayNumber}
 use Rattle.calendar.specs.DayCount.{actual, difference}
@@ -35,6 +36,6 @@ unfolding leap monthLength exists daysOfMonths daysOfYears dayNumber actual diff
 interest-refused = (refl, refl)
 
 -- the table's row 13 at an interest: L at 10,000 points over 366 days, by a year of 360
-pub interest-over-limit : interestSaid (centsOf 0 99999999999) 10000 0 (record { year = 2023; month = 1; day = 1 }) (record { year = 2024; month = 1; day = 2 }) 4 ≡ refuses 13 0
+pub interest-over-limit : interestSaid (centsOf 0 largest) 10000 0 (record { year = 2023; month = 1; day = 1 }) (record { year = 2024; month = 1; day = 2 }) 4 ≡ refuses 13 0
 unfolding leap monthLength exists daysOfMonths daysOfYears dayNumber actual difference daysRows badMode ruleOf restOf isOdd roundedMagnitude rounded interestRows interestOf interestSaid
 interest-over-limit = refl

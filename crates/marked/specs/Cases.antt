@@ -62,8 +62,8 @@ takers ws from (suc n) = placeOf (takerOf ws (totals ws from) (suc from)) (taker
 -- what the definitions say of each case
 unfoldable pub said : List (List ℤ)
 said =
-    numbers one (plainSaid 6 (negsuc 4) 2)  -- -5/2 HALF_EVEN
-    ∷ numbers one (plainSaid 3 (negsuc 4) 2)  -- -5/2 FLOOR
+    numbers one (plainSaid 6 (negsuc 4) (pos 1) 2)  -- -5/2 HALF_EVEN
+    ∷ numbers one (plainSaid 3 (negsuc 4) (pos 1) 2)  -- -5/2 FLOOR
     ∷ converted DEM (pos 10000) EUR  -- 100.00 DEM to EUR
     ∷ (toEuro (lineOf DEM) stepDecimals (pos 10000) ∷ converted DEM (pos 10000) FRF)  -- 100.00 DEM to FRF, with the euro step
     ∷ converted DEM (pos 100000000) EUR  -- 1,000,000.00 DEM to EUR

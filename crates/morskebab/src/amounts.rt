@@ -1,6 +1,7 @@
 // The plain quotient, the table of currencies, and amounts.
 use currency::line_of;
 use euro::convert;
+use euro::convert_by;
 use flat::MkbAmount;
 use flat::MkbAmountAnswer;
 use flat::MkbLine;
@@ -20,16 +21,16 @@ ghost use Rattle.rounding.specs.Plain.{plainSaid};
 ghost use Rattle.currency.specs.Table.{lineOf};
 ghost use Rattle.amount.specs.Sum.{sumSaid, orderSaid, negateSaid};
 ghost use Rattle.amount.specs.Rescaling.{rescaleSaid};
-ghost use Rattle.euro.specs.Conversion.{convertSaid};
+ghost use Rattle.euro.specs.Conversion.{convertBySaid, convertSaid};
 ghost use Rattle.flat.specs.Given.{passed8, passed64, currencyFrom, amountFrom};
 ghost use Rattle.flat.specs.Answers.{lineFlat, wholeOf, amountAnswerOf, orderOf};
 
-// n / d rounded by the mode: refusals 1, 3, 6.
+// a x b / d rounded by the mode: refusals 1, 3, 6, 13. A quotient n / d is the one of the factors n and 1.
 #[no_mangle]
-pub extern "C" fn mkb_round(mode: i64, n: i64, d: i64) -> MkbWhole
-    ensures { λ r. ⌜ r ≡ wholeOf (plainSaid (passed8 mode) n (passed64 d)) ⌝ }
+pub extern "C" fn mkb_round(mode: i64, a: i64, b: i64, d: i64) -> MkbWhole
+    ensures { λ r. ⌜ r ≡ wholeOf (plainSaid (passed8 mode) a b (passed64 d)) ⌝ }
 {
-    flat_whole(plain_quotient(pass_u8(mode), n, pass_u64(d)))
+    flat_whole(plain_quotient(pass_u8(mode), a, b, pass_u64(d)))
 }
 
 // The table's line of a currency number; all 0 for a number over 20.
@@ -78,4 +79,12 @@ pub extern "C" fn mkb_convert(a: MkbAmount, to: i64) -> MkbAmountAnswer
     ensures { λ r. ⌜ r ≡ amountAnswerOf (convertSaid (amountFrom a) (currencyFrom to)) ⌝ }
 {
     flat_answer(convert(given_amount(a), given_currency(to)))
+}
+
+// The same by a euro step of 3 to 6 decimals between two old units: refusals 2, 3, 4, 13.
+#[no_mangle]
+pub extern "C" fn mkb_convert_by(a: MkbAmount, to: i64, decimals: i64) -> MkbAmountAnswer
+    ensures { λ r. ⌜ r ≡ amountAnswerOf (convertBySaid (amountFrom a) (currencyFrom to) (passed8 decimals)) ⌝ }
+{
+    flat_answer(convert_by(given_amount(a), given_currency(to), pass_u8(decimals)))
 }

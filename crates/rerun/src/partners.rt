@@ -6,7 +6,7 @@ use console::put_named;
 use lines::put_bytes;
 use std::num::wrapping_add_u64;
 use whole::magnitude;
-ghost use Prim.Native.Nat.{_<_, _^_};
+ghost use Prim.Native.Nat.{_<_, _≤_, _^_};
 
 // A partner's numbers.
 pub struct Partner {
@@ -21,7 +21,7 @@ pub struct Partner {
 
 // N x weight; a book has no greater ones than these, and their product fits.
 fn product(n: u64, weight: u64) -> u64
-    ensures { λ r. ⌜ r < 2 ^ 63 ⌝ }
+    ensures { λ r. ⌜ r ≤ 10 ^ 19 ⌝ }
 {
     if Amount::L < n {
         return 0;
@@ -40,7 +40,7 @@ fn round_down(n: u64, d: u64) -> u64 {
 }
 
 fn round_up(n: u64, d: u64) -> u64
-    requires { ⌜ n < 2 ^ 63 ⌝ }
+    requires { ⌜ n ≤ 10 ^ 19 ⌝ }
 {
     if d == 0 {
         return 0;

@@ -6,12 +6,16 @@ pub mod Ceiling
 pub mod Chosen
 pub mod Distance
 pub mod Exact
+pub mod FactorOne
+pub mod Factors
 pub mod Floor
 pub mod Fractions
 pub mod Monotone
 pub mod Nearest
 pub mod Opposite
 pub mod Order
+pub mod OverTheLimit
+pub mod PlainRows
 pub mod Table
 pub mod Threshold
 pub mod Ties

@@ -1,13 +1,11 @@
 -- The rounded number by sign and magnitude, as a program computes it.
 -- Assumes nothing.
-use mathlib.Core.Path.{_≡_, refl, sym, _∙_, ap}
+use mathlib.Core.Path.{_≡_, refl}
 use mathlib.Core.Bool.{Bool, true, false}
-use Prim.Native.Nat.{ℕ, zero, suc, _+_, _*_, _<_, _≤_, _^_}
-use native.Mathlib.Nat.{lt-of-le-of-lt}
+use Prim.Native.Nat.{ℕ, zero, suc, _*_}
 use native.Mathlib.Omega.{arith}
 use lib.IntN.{ℤ, pos, negsuc, negℤ, _*ℤ_}
-use Rattle.whole.specs.Whole.{negative, magnitudeOf, signedOf, heldSigned}
-use Rattle.whole.proofs.Laws.{held-within, signed-zero}
+use Rattle.whole.specs.Whole.{negative, magnitudeOf, signedOf}
 use Rattle.rounding.specs.declared.Rule.{Rule}
 use Rattle.rounding.specs.Leaf.{rounded, roundedMagnitude}
 use Rattle.rounding.proofs.Bounds.{at-most}
@@ -28,8 +26,3 @@ by-magnitude rule (negsuc n) f d = at (suc n * f)
         ≡ signedOf true (roundedMagnitude rule true m d)
     at zero = rw (zero-rounds rule false d, zero-rounds rule true d)
     at (suc m) = refl
-
--- an i64 holds the rounded magnitude with its sign wherever it holds the numerator
-pub held-rounded : (rule : Rule) (sign : Bool) (n d : ℕ) → n < 2 ^ 63
-    → heldSigned sign (roundedMagnitude rule sign n d) ≡ signedOf sign (roundedMagnitude rule sign n d)
-held-rounded rule sign n d fits = held-within sign (roundedMagnitude rule sign n d) (lt-of-le-of-lt (at-most rule sign n d) fits)

@@ -1,7 +1,7 @@
 -- A refused check is the row that it names; what passed is the total, and row 13 is asked of it. Assumes nothing.
 use mathlib.Core.Path.{_≡_, sym, _∙_, ap₂}
 use Prim.Native.Nat.{ℕ}
-use lib.IntN.{ℤ}
+use lib.IntN.{ℤ, _+ℤ_}
 use mir.Syntax.{w64}
 use mir.Val.{SFits}
 use mir.ValLaws.{toZ-ofZ}
@@ -9,10 +9,13 @@ use Rattle.refusal.specs.Rows.{checkOf}
 use Rattle.refusal.proofs.Check.{passed, refused}
 use Rattle.whole.specs.Whole.{magnitudeOf}
 use Rattle.whole.proofs.Laws.{read-back}
-use Rattle.amount.specs.Amounts.{limited}
-use Rattle.amount.specs.Sum.{rowsOfTwo, total, sumSaid}
+use Rattle.amount.specs.declared.Amount.{Amount}
+use Rattle.amount.specs.Amounts.{limited, raisedTo}
+use Rattle.amount.specs.Raising.{nearer}
+use Rattle.amount.specs.Sum.{rowsOfTwo, greaterScale, total, sumSaid}
 use borrow.Author.Needs.{needs}
 use Rattle.amount.proofs.Limits.{pair, read-rows}
+use Rattle.amount.proofs.Raised.{one-near, both-stand, stands-limited}
 use Rattle.amount.proofs.SumLaws.{made}
 use Rattle.amount.proofs.Amount.sum.Statement.{statement}
 use Rattle.amount.proofs.Amount.sum.Tie as tie
@@ -61,8 +64,7 @@ total-requires c κs =
     let b = s .args .other in
     let limits = pair (a .scale) (b .scale) (magnitudeOf (a .coefficient)) (magnitudeOf (b .coefficient)) (a .currency) (b .currency)
     (sym (told (e .before .before)) ∙ e .enum-told .given .1) in
-    rw (toZ-ofZ w64 (a .coefficient) (own s), toZ-ofZ w64 (b .coefficient) (other s))
-    (limits .first .within, limits .first .scaled, limits .second .within, limits .second .scaled)
+    (limits .first .scaled, limits .second .scaled)
 
 within-requires : tie.Need-within-requires
 within-requires c κs = search needs
@@ -87,9 +89,15 @@ returns-2 c =
     let sum =
     read-back (c .before .total .result) (c .before .total .ok)
     ∙ rw (toZ-ofZ w64 (a .coefficient) (own s), toZ-ofZ w64 (b .coefficient) (other s)) at (c .before .total .ensures) in
+    let clear = sym (told k) ∙ g .before .enum-told .given .1 in
+    let limits = pair (a .scale) (b .scale) (magnitudeOf (a .coefficient)) (magnitudeOf (b .coefficient)) (a .currency) (b .currency) clear in
+    let u = raisedTo (greaterScale a b) a in
+    let v = raisedTo (greaterScale a b) b in
     c .within .ensures
     ∙ ap₂ (λ (scale : ℕ) (z : ℤ). limited z (record { currency = a .currency; scale = scale; coefficient = z })) (g .greater .ensures) sum
-    ∙ sym (passed (limited (total a b) (made a b)) (rowsOfTwo a b) (sym (told k) ∙ g .before .enum-told .given .1))
+    ∙ stands-limited (λ (z : ℤ). record { currency = a .currency; scale = greaterScale a b; coefficient = z }) (nearer u +ℤ nearer v) (total a b)
+    (both-stand u v (one-near (a .coefficient) (b .coefficient) (a .scale) (b .scale) (limits .first .within) (limits .second .within)))
+    ∙ sym (passed (limited (total a b) (made a b)) (rowsOfTwo a b) clear)
 
 pub sum-spec : {M : Type 1} → statement M
 sum-spec =

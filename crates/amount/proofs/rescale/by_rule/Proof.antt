@@ -1,8 +1,10 @@
 -- A refused check is the row that it names; what passed is the moved coefficient, and row 13 is asked of it. Assumes nothing.
 use mathlib.Core.Path.{_≡_, sym, _∙_, ap}
+use mathlib.Core.Bool.{cond}
 use mathlib.Core.List.{List}
-use Prim.Native.Nat.{ℕ}
+use Prim.Native.Nat.{ℕ, _-_, _^_}
 use borrow.Author.Needs.{needs}
+use lib.Dec.{leb}
 use lib.IntN.{ℤ}
 use mir.Syntax.{w64}
 use mir.Val.{SFits}
@@ -12,9 +14,12 @@ use Rattle.refusal.proofs.Check.{passed, refused}
 use Rattle.whole.specs.Whole.{magnitudeOf}
 use Rattle.whole.proofs.Laws.{read-back}
 use Rattle.amount.specs.declared.Amount.{Amount}
-use Rattle.amount.specs.Amounts.{limited}
+use Rattle.rounding.specs.Leaf.{rounded}
+use Rattle.amount.specs.Amounts.{limited, raisedTo}
+use Rattle.amount.specs.Raising.{nearer}
 use Rattle.amount.specs.Rescaling.{rescaleRows, rescaled}
 use Rattle.amount.proofs.Limits.{rescalable, read-magnitude}
+use Rattle.amount.proofs.Raised.{stands-limited, either-stands}
 use Rattle.amount.proofs.rescale.by_rule.Statement.{statement}
 use Rattle.amount.proofs.rescale.by_rule.Tie as tie
 
@@ -60,8 +65,11 @@ within-requires : tie.Need-within-requires
 within-requires c κs = search needs
 
 -- what row 13 is asked of: the amount with a coefficient at the new scale
+abbrev made : Amount → ℕ → ℤ → Amount
+made a t z = record { currency = a .currency; scale = t; coefficient = z }
+
 abbrev asked : Amount → ℕ → ℤ → Said Amount
-asked a t z = limited z (record { currency = a .currency; scale = t; coefficient = z })
+asked a t z = limited z (made a t z)
 
 returns : tie.Need-returns
 returns c =
@@ -82,6 +90,9 @@ returns-2 c =
     let m = c .before .moved in
     c .within .ensures
     ∙ ap (asked a t) (read-back (m .result) (m .ok) ∙ rw (toZ-ofZ w64 (a .coefficient) (own s)) at (m .ensures))
+    ∙ stands-limited (made a t) (cond (leb (a .scale) t) (nearer (raisedTo t a)) (rounded (s .args .rule) (a .coefficient) (10 ^ (a .scale - t))))
+    (rescaled (s .args .rule) t a)
+    (either-stands (leb (a .scale) t) (raisedTo t a) (rounded (s .args .rule) (a .coefficient) (10 ^ (a .scale - t))))
     ∙ sym (passed (asked a t (rescaled (s .args .rule) t a)) (rowsAt a t) (sym (told (e .before .before)) ∙ e .enum-told .given .1))
 
 pub by-rule-spec : {M : Type 1} → statement M

@@ -5,6 +5,7 @@ use native.Mathlib.Nat.{div-le-self}
 use native.Mathlib.Omega.{arith}
 use borrow.Author.Needs.{needs}
 use lib.ListN.{length, getD}
+use Rattle.amount.specs.Amounts.{largest}
 use Rattle.cycle.proofs.Bounds.{total-within}
 use Rattle.bulk.proofs.RowTotals.{scale, Read, read-start, left-within, row-within, share-within, product-within, total-is, read-more, read-end}
 use Rattle.bulk.proofs.reading.totals_by.Statement.{statement}
@@ -69,7 +70,7 @@ within : (c : tie.In-loop Inv-loop μ-loop)
     → c .before .before .before .args .n / c .before .before .before .args .sum * getD (c .before .before .before .args .t1) (c .before .loop .i) 0
     + c .before .before .before .args .n % c .before .before .before .args .sum * (scale / c .before .before .before .args .sum + 1) * getD (c .before .before .before .args .t1) (c .before .loop .i) 0 / scale
     + c .before .loop .bits % 2
-    ≤ 99999999999
+    ≤ largest
 within c =
     let s = c .before .before .before in
     let a = s .args in

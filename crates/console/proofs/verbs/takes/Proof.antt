@@ -1,10 +1,14 @@
 -- By the verb. Assumes nothing.
+use mathlib.Core.Path.{sym, _∙_}
 use borrow.Author.Needs.{needs}
 use Rattle.console.proofs.verbs.takes.Statement.{statement}
 use Rattle.console.proofs.verbs.takes.Tie as tie
 
 enum-told : tie.Need-enum-told
 enum-told c = search needs
+
+is-either-requires : tie.Need-is-either-requires
+is-either-requires c κs = search needs
 
 enum-told-2 : tie.Need-enum-told-2
 enum-told-2 c = search needs
@@ -20,6 +24,9 @@ enum-told-5 c = search needs
 
 enum-told-6 : tie.Need-enum-told-6
 enum-told-6 c = search needs
+
+is-either-requires-2 : tie.Need-is-either-requires-2
+is-either-requires-2 c κs = search needs
 
 enum-told-7 : tie.Need-enum-told-7
 enum-told-7 c = search needs
@@ -58,7 +65,7 @@ enum-told-18 : tie.Need-enum-told-18
 enum-told-18 c = search needs
 
 returns : tie.Need-returns
-returns c = rw (c .enum-told .given .1)
+returns c = c .is-either .ensures ∙ sym (rw (c .before .enum-told .given .1))
 
 returns-2 : tie.Need-returns-2
 returns-2 c = rw (c .enum-told2 .given .1)
@@ -73,7 +80,7 @@ returns-5 : tie.Need-returns-5
 returns-5 c = rw (c .enum-told5 .given .1)
 
 returns-6 : tie.Need-returns-6
-returns-6 c = rw (c .enum-told6 .given .1)
+returns-6 c = c .is-either2 .ensures ∙ sym (rw (c .before .enum-told6 .given .1))
 
 returns-7 : tie.Need-returns-7
 returns-7 c = rw (c .enum-told7 .given .1)
@@ -116,11 +123,13 @@ takes-spec =
     tie.close
     (tie.spec
     enum-told
+    is-either-requires
     enum-told-2
     enum-told-3
     enum-told-4
     enum-told-5
     enum-told-6
+    is-either-requires-2
     enum-told-7
     enum-told-8
     enum-told-9

@@ -14,6 +14,7 @@ use Rattle.whole.proofs.Laws.{sign-and-magnitude}
 use Rattle.currency.specs.declared.Currency.{Currency}
 use Rattle.currency.specs.Table.{lastCurrency}
 use Rattle.amount.specs.Amounts.{largest}
+use Rattle.euro.specs.Steps.{mostDecimals}
 use Rattle.euro.specs.Conversion.{convertRows, exchanged, converted}
 use Rattle.euro.proofs.conversion.accepted.Statement.{statement}
 use Rattle.euro.proofs.conversion.accepted.Tie as tie
@@ -29,11 +30,17 @@ magnitude-requires : tie.Need-magnitude-requires
 magnitude-requires c κs = search needs
 
 -- what passed the check
-within : (scale m : ℕ) (from to : Currency) → checkOf (convertRows scale m from to) ≡ Passed → (from .0 ≤ lastCurrency) × (to .0 ≤ lastCurrency) × (m ≤ largest)
+within : (decimals scale m : ℕ) (from to : Currency) → checkOf (convertRows decimals scale m from to) ≡ Passed
+    → (decimals ≤ mostDecimals) × (from .0 ≤ lastCurrency) × (to .0 ≤ lastCurrency) × (m ≤ largest)
 unfolding convertRows
-within scale m from to e =
-    let none = clear (convertRows scale m from to) e .1 .1 in
-    (ltb-false lastCurrency (from .0) (none .1 .0), ltb-false lastCurrency (to .0) (none .1 .1 .0), ltb-false largest m (none .0))
+within decimals scale m from to e =
+    let steps = clear (convertRows decimals scale m from to) e .1 .1 .1 in
+    let none = steps .1 in (
+      ltb-false mostDecimals decimals (steps .0),
+      ltb-false lastCurrency (from .0) (none .1 .0),
+      ltb-false lastCurrency (to .0) (none .1 .1 .0),
+      ltb-false largest m (none .0),
+    )
 
 -- what `magnitude` and `is_negative` answered
 asked : (c : tie.After-magnitude)
@@ -49,8 +56,8 @@ exchange-requires : tie.Need-exchange-requires
 exchange-requires c κs =
     let s = c .before .before .before .before .before .before .before .before in
     let a = s .args in
-    let limits = within (a .amount .scale) (magnitudeOf (a .amount .coefficient)) (a .amount .currency) (a .to) (s .pre) in
-    (limits .0, limits .1, rw (asked c .1) (limits .2))
+    let limits = within (a .decimals) (a .amount .scale) (magnitudeOf (a .amount .coefficient)) (a .amount .currency) (a .to) (s .pre) in
+    (limits .0, limits .1, limits .2, rw (asked c .1) (limits .3))
 
 returns-2 : tie.Need-returns-2
 unfolding converted
@@ -58,7 +65,7 @@ returns-2 c =
     let e = c .before .before .before .before .before in
     let a = e .before .before .before .before .args in
     c .exchange .ensures
-    ∙ ap (exchanged (a .amount .currency) (a .to))
+    ∙ ap (exchanged (a .decimals) (a .amount .currency) (a .to))
     (ap₂ signedOf (asked (c .before) .0) (asked (c .before) .1) ∙ sign-and-magnitude (a .amount .coefficient))
     ∙ sym (rw (ne-eqb (a .amount .currency .0) (a .to .0) (e .if1 .left)))
 

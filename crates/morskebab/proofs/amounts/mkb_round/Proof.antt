@@ -26,7 +26,8 @@ returns c =
       c .before .before .pass-u64 .ensures,
       c .before .before .before .pass-u8 .ensures,
       toZ-ofZ w64 (s .args .mode) (s .fits .mode),
-      toZ-ofZ w64 (s .args .n) (s .fits .n),
+      toZ-ofZ w64 (s .args .a) (s .fits .a),
+      toZ-ofZ w64 (s .args .b) (s .fits .b),
       toZ-ofZ w64 (s .args .d) (s .fits .d),
     )
 

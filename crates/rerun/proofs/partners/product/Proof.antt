@@ -2,6 +2,7 @@ use Prim.Native.Nat.{_≤_}
 use native.Mathlib.Omega.{arith}
 use native.Mathlib.Nat.{mul-le-mul}
 use borrow.Author.Needs.{needs}
+use Rattle.amount.specs.Amounts.{largest}
 use Rattle.rerun.proofs.partners.product.Statement.{statement}
 use Rattle.rerun.proofs.partners.product.Tie as tie
 
@@ -13,13 +14,13 @@ returns-2 c = search needs
 
 mul-result : tie.Need-mul-result
 mul-result c =
-    let n : c .before .before .args .n ≤ 99999999999 = search needs in
+    let n : c .before .before .args .n ≤ largest = search needs in
     let w : c .before .before .args .weight ≤ 10000 = search needs in
     omega (arith, mul-le-mul n w)
 
 returns-3 : tie.Need-returns-3
 returns-3 c =
-    let n : c .before .before .args .n ≤ 99999999999 = search needs in
+    let n : c .before .before .args .n ≤ largest = search needs in
     let w : c .before .before .args .weight ≤ 10000 = search needs in
     omega (arith, mul-le-mul n w)
 

@@ -1,61 +1,77 @@
 -- A refused check is the row that it names, and what passed is the rounded quotient. Assumes nothing.
 use mathlib.Core.Path.{_≡_, sym, _∙_, ap}
-use Prim.Native.Nat.{ℕ, _≤_}
+use Prim.Native.Nat.{ℕ, _*_}
 use borrow.Author.Needs.{needs}
-use borrow.Author.Tests.{ltb-false}
 use lib.IntN.{ℤ}
-use Rattle.refusal.specs.declared.Checked.the-variants.{Passed}
-use Rattle.refusal.specs.Rows.{Said, gives, checkOf}
-use Rattle.refusal.proofs.Check.{passed, refused, clear}
-use Rattle.whole.specs.Whole.{signedOf}
-use Rattle.whole.proofs.Laws.{read-back}
-use Rattle.rounding.specs.declared.Rule.{Rule}
+use Rattle.refusal.specs.Rows.{Said, gives, checkOf, firstRow}
+use Rattle.refusal.proofs.Check.{passed, refused}
+use Rattle.whole.specs.Whole.{magnitudeOf, signedOf, heldSigned}
+use Rattle.whole.proofs.Laws.{magnitude-signed, read-back}
 use Rattle.rounding.specs.Leaf.{roundedMagnitude}
-use Rattle.rounding.specs.Plain.{limit, plainRows}
+use Rattle.rounding.specs.Product.{roundedProduct}
+use Rattle.rounding.specs.Plain.{plainRows, behindMode}
+use Rattle.rounding.proofs.PlainRows.{same-rows, held-quotient}
 use Rattle.rounding.proofs.plain.by_rule.Statement.{statement}
 use Rattle.rounding.proofs.plain.by_rule.Tie as tie
-use Rattle.rounding.proofs.plain.by_rule.Reads as reads
-use Rattle.rounding.proofs.plain.by_rule.Lts as lts
-use Rattle.rounding.proofs.plain.check.Reads as check-reads
-use Rattle.rounding.proofs.plain.value.Reads as value-reads
 
--- src/plain.rt:44:11
+round-product-requires : tie.Need-round-product-requires
+round-product-requires c κs = search needs
+
 check-requires : tie.Need-check-requires
 check-requires c κs = search needs
 
--- src/plain.rt:45:26
 enum-known-refusal : tie.Need-enum-known-refusal
 enum-known-refusal c = search needs
 
--- src/plain.rt:46:44
 enum-told : tie.Need-enum-told
 enum-told c = search needs
 
--- src/plain.rt:46:44
-within : (m d : ℕ) → checkOf (plainRows m d) ≡ Passed → m ≤ limit
-unfolding plainRows
-within m d e = ltb-false limit m (clear (plainRows m d) e .0)
+signed-requires : tie.Need-signed-requires
+signed-requires c κs = search needs
 
-value-requires : tie.Need-value-requires
-value-requires c κs =
-    let a = c .before .before .before .args in
-    within (a .numerator) (a .d) (sym (c .before .before .check .ensures) ∙ c .enum-told .given .1)
+-- the rows that `check` was asked
+told : (c : tie.After-check)
+    → let a = c .before .before .args in
+    c .check .result ≡ checkOf (plainRows (a .a) (a .b) (a .d) (roundedProduct (a .rule) (a .negative) (a .a) (a .b) (a .d)))
+told c =
+    let a = c .before .before .args in
+    c .check .ensures ∙ ap (λ (q : ℕ). checkOf (plainRows (a .a) (a .b) (a .d) q)) (c .before .round-product .ensures)
+
+-- and what they say is what the rounded quotient's own rows do
+said : (c : tie.After-check)
+    → let a = c .before .before .args in
+    let q = signedOf (a .negative) (roundedMagnitude (a .rule) (a .negative) (a .a * a .b) (a .d)) in
+    firstRow (plainRows (a .a) (a .b) (a .d) (roundedProduct (a .rule) (a .negative) (a .a) (a .b) (a .d))) (gives q) ≡ behindMode (a .a) (a .b) (a .d) q
+said c =
+    let a = c .before .before .args in
+    let m = roundedMagnitude (a .rule) (a .negative) (a .a * a .b) (a .d) in
+    let q = signedOf (a .negative) m in
+    same-rows (a .rule) (a .negative) (a .a) (a .b) (a .d) (gives q)
+    ∙ ap (λ (x : ℕ). firstRow (plainRows (a .a) (a .b) (a .d) x) (gives q)) (sym (magnitude-signed (a .negative) m))
 
 returns : tie.Need-returns
 returns c =
-    let a = c .before .before .before .before .args in
+    let k = c .before .before .before in
+    let a = k .before .before .args in
+    let q = signedOf (a .negative) (roundedMagnitude (a .rule) (a .negative) (a .a * a .b) (a .d)) in
     sym
-    (refused (gives (signedOf (a .negative) (roundedMagnitude (a .rule) (a .negative) (a .numerator) (a .d)))) (plainRows (a .numerator) (a .d))
-    (c .before .refusal .given .0 .0) (sym (c .before .before .before .check .ensures) ∙ c .before .refusal .given .1))
+    (refused (gives q) (plainRows (a .a) (a .b) (a .d) (roundedProduct (a .rule) (a .negative) (a .a) (a .b) (a .d)))
+    (c .before .refusal .given .0 .0) (sym (told k) ∙ c .before .refusal .given .1))
+    ∙ said k
 
 returns-2 : tie.Need-returns-2
 returns-2 c =
-    let a = c .before .before .before .before .args in
-    ap gives (read-back (c .value .result) (c .value .ok) ∙ c .value .ensures)
-    ∙ sym (passed (gives (signedOf (a .negative) (roundedMagnitude (a .rule) (a .negative) (a .numerator) (a .d)))) (plainRows (a .numerator) (a .d))
-    (sym (c .before .before .before .check .ensures) ∙ c .before .enum-told .given .1))
+    let k = c .before .before .before in
+    let a = k .before .before .args in
+    let q = signedOf (a .negative) (roundedMagnitude (a .rule) (a .negative) (a .a * a .b) (a .d)) in
+    let clear = sym (told k) ∙ c .before .enum-told .given .1 in
+    ap gives
+    (read-back (c .signed .result) (c .signed .ok) ∙ c .signed .ensures ∙ ap (heldSigned (a .negative)) (k .before .round-product .ensures)
+    ∙ held-quotient (a .rule) (a .negative) (a .a) (a .b) (a .d) clear)
+    ∙ sym (passed (gives q) (plainRows (a .a) (a .b) (a .d) (roundedProduct (a .rule) (a .negative) (a .a) (a .b) (a .d))) clear)
+    ∙ said k
 
 pub by-rule-spec : {M : Type 1} → statement M
 by-rule-spec =
     tie.close
-    (tie.spec check-requires enum-known-refusal enum-told value-requires returns returns-2)
+    (tie.spec round-product-requires check-requires enum-known-refusal enum-told signed-requires returns returns-2)
