@@ -139,6 +139,9 @@ int main(int argc, char **argv)
     row("round HALF_EVEN", PAIRS, round_agrees, round_ours, round_plain);
     set_modes(1);
     row("round, mixed modes", PAIRS, round_agrees, round_ours, round_plain);
+    set_products(1);
+    row("round a product of two words, mixed modes", PAIRS, round_agrees, round_ours, round_plain);
+    set_products(0);
     row("convert, old to old", AMOUNTS, convert_agrees, convert_ours, convert_plain);
     row("interest", AMOUNTS, interest_agrees, interest_ours, interest_plain);
     row("net for a gross, over our tax from gross", LISTS, net_for_agrees, net_for_ours, tax_gross_ours);

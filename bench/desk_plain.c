@@ -41,7 +41,7 @@ static void answer(const char *line)
     int64_t mode, n, d, x;
     int refusal;
     number(number(number(line + 5, &mode), &n), &d);
-    x = plain_round((uint8_t)mode, n, (uint64_t)d, &refusal);
+    x = plain_round((uint8_t)mode, n, 1, (uint64_t)d, &refusal);
     out[at++] = refusal ? '!' : '=';
     out[at++] = ' ';
     put(refusal ? refusal : x);

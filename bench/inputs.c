@@ -1,7 +1,7 @@
 #include "inputs.h"
 #include <string.h>
 
-pair pairs[PAIRS];
+pair pairs[PAIRS], products[PAIRS];
 exchange exchanges[AMOUNTS];
 loan loans[AMOUNTS];
 list lists[LISTS];
@@ -35,11 +35,25 @@ static void draw_pairs(void)
         p->mode = (uint8_t)below(7);
         p->d = 1 + below(2000000);
         p->n = signed_below(UINT64_C(1000000000000));
+        p->factor = 1;
         if (i % 8 == 0) {
             p->d = 2 * (1 + below(1000000));
             p->n = (int64_t)(below(1000000) * p->d + p->d / 2);
             p->n = below(2) ? -p->n : p->n;
         }
+    }
+}
+
+/* factors and divisors of up to 10^18, the quotient within it */
+static void draw_products(void)
+{
+    const uint64_t limit = UINT64_C(1000000000000000000);
+    for (int i = 0; i < PAIRS; i++) {
+        pair *p = &products[i];
+        p->mode = (uint8_t)below(7);
+        p->d = 1 + below(limit);
+        p->n = signed_below(p->d);
+        p->factor = signed_below(limit);
     }
 }
 
@@ -70,6 +84,7 @@ static void draw_loans(void)
 void draw_inputs(void)
 {
     draw_pairs();
+    draw_products();
     draw_exchanges();
     draw_loans();
     for (int i = 0; i < LISTS; i++) {

@@ -13,7 +13,7 @@
 
 typedef struct {
     uint8_t mode;
-    int64_t n;
+    int64_t n, factor;
     uint64_t d;
 } pair;
 
@@ -34,7 +34,8 @@ typedef struct {
     uint32_t weights[64];
 } list;
 
-extern pair pairs[PAIRS];
+/* numerators by the factor 1, and products that no machine word holds */
+extern pair pairs[PAIRS], products[PAIRS];
 extern exchange exchanges[AMOUNTS];
 extern loan loans[AMOUNTS];
 extern list lists[LISTS];

@@ -1,15 +1,31 @@
 #include "plain.h"
 #include <string.h>
 
-int64_t plain_round(uint8_t mode, int64_t n, uint64_t d, int *refusal)
+static const uint64_t limit = UINT64_C(1000000000000000000);
+
+/* a x b / d and its rest, in one machine word where it holds the product; one more than 10^18 where the quotient is over that */
+static uint64_t divided(uint64_t a, uint64_t b, uint64_t d, uint64_t *rest)
 {
-    const uint64_t limit = UINT64_C(1000000000000000000);
-    int negative = n < 0;
-    uint64_t m = negative ? (uint64_t)(-(n + 1)) + 1 : (uint64_t)n;
-    *refusal = mode > 6 ? 1 : m > limit ? 3 : d < 1 || d > limit ? 6 : 0;
+    unsigned __int128 n = (unsigned __int128)a * b;
+    if (n >> 64 == 0) {
+        *rest = (uint64_t)n % d;
+        return (uint64_t)n / d;
+    }
+    unsigned __int128 q = n / d;
+    *rest = (uint64_t)(n - q * d);
+    return q > limit ? limit + 1 : (uint64_t)q;
+}
+
+static uint64_t magnitude(int64_t n) { return n < 0 ? (uint64_t)(-(n + 1)) + 1 : (uint64_t)n; }
+
+int64_t plain_round(uint8_t mode, int64_t a, int64_t b, uint64_t d, int *refusal)
+{
+    int negative = (a < 0) != (b < 0);
+    uint64_t m = magnitude(a), f = magnitude(b);
+    *refusal = mode > 6 ? 1 : m > limit || f > limit ? 3 : d < 1 || d > limit ? 6 : 0;
     if (*refusal)
         return 0;
-    uint64_t q = m / d, r = m % d;
+    uint64_t r, q = divided(m, f, d, &r);
     int rise = 0;
     if (r)
         switch (mode) {
@@ -22,6 +38,10 @@ int64_t plain_round(uint8_t mode, int64_t n, uint64_t d, int *refusal)
         case 6: rise = (q & 1) ? r >= d - r : r > d - r; break;
         }
     q += (uint64_t)rise;
+    if (q > limit) {
+        *refusal = 13;
+        return 0;
+    }
     return negative ? -(int64_t)q : (int64_t)q;
 }
 
@@ -31,16 +51,16 @@ static const uint8_t k[21] = {5, 4, 5, 3, 5, 6, 2, 4, 5, 4, 3, 5, 3, 3, 6, 6, 4,
 static const uint8_t digits[21] = {2, 0, 2, 0, 2, 2, 0, 0, 2, 2, 0, 2, 0, 2, 2, 2, 2, 2, 2, 2, 2};
 static const uint64_t ten[10] = {1, 10, 100, 1000, 10000, 100000, 1000000, 10000000, 100000000, 1000000000};
 
-static uint64_t half_up(uint64_t n, uint64_t d)
+static uint64_t half_up(uint64_t a, uint64_t b, uint64_t d)
 {
-    uint64_t q = n / d, r = n % d;
+    uint64_t r, q = divided(a, b, d, &r);
     return q + (r >= d - r && r);
 }
 
 int64_t plain_convert(uint8_t from, uint8_t scale, int64_t n, uint8_t to, int *refusal)
 {
     int negative = n < 0;
-    uint64_t m = negative ? (uint64_t)(-(n + 1)) + 1 : (uint64_t)n;
+    uint64_t m = magnitude(n);
     *refusal = scale > 6 ? 2 : from <= 20 && scale != digits[from] ? 2 : m > PLAIN_L ? 3 : from > 20 || to > 20 ? 4 : 0;
     if (*refusal)
         return 0;
@@ -48,16 +68,16 @@ int64_t plain_convert(uint8_t from, uint8_t scale, int64_t n, uint8_t to, int *r
         return n;
     uint64_t r;
     if (from == 0)
-        r = half_up(m * K[to], ten[k[to] + 2 - digits[to]]);
+        r = half_up(m, K[to], ten[k[to] + 2 - digits[to]]);
     else if (to == 0)
-        r = half_up(m * ten[k[from] + 2 - digits[from]], K[from]);
+        r = half_up(m, ten[k[from] + 2 - digits[from]], K[from]);
     else {
-        uint64_t step = half_up(m * ten[k[from] + 3 - digits[from]], K[from]);
+        uint64_t step = half_up(m, ten[k[from] + 3 - digits[from]], K[from]);
         if (step > PLAIN_L) {
             *refusal = 13;
             return 0;
         }
-        r = half_up(step * K[to], ten[k[to] + 3 - digits[to]]);
+        r = half_up(step, K[to], ten[k[to] + 3 - digits[to]]);
     }
     if (r > PLAIN_L) {
         *refusal = 13;
@@ -86,8 +106,7 @@ static uint32_t number_of(plain_date d)
 
 int64_t plain_interest(int64_t principal, uint32_t rate, uint8_t basis, plain_date start, plain_date end, uint8_t mode, int *refusal)
 {
-    int negative = principal < 0;
-    uint64_t m = negative ? (uint64_t)(-(principal + 1)) + 1 : (uint64_t)principal;
+    uint64_t m = magnitude(principal);
     *refusal = mode > 6 ? 1 : m > PLAIN_L ? 3 : rate > 10000 || basis > 3 ? 6 : !exists(start) || !exists(end) ? 7 : 0;
     if (*refusal)
         return 0;
@@ -106,7 +125,7 @@ int64_t plain_interest(int64_t principal, uint32_t rate, uint8_t basis, plain_da
         *refusal = 8;
         return 0;
     }
-    int64_t r = plain_round(mode, principal * (int64_t)(rate * (uint64_t)days), 10000u * (basis == 1 ? 365u : 360u), refusal);
+    int64_t r = plain_round(mode, principal, (int64_t)(rate * (uint64_t)days), 10000u * (basis == 1 ? 365u : 360u), refusal);
     if ((r < 0 ? -r : r) > (int64_t)PLAIN_L)
         *refusal = 13;
     return r;
@@ -144,7 +163,7 @@ int plain_share(int64_t n, const uint32_t *weights, size_t count, int64_t *out, 
 {
     uint64_t sum = 0, rest[64], left;
     int negative = n < 0;
-    uint64_t m = negative ? (uint64_t)(-(n + 1)) + 1 : (uint64_t)n;
+    uint64_t m = magnitude(n);
     uint64_t share[64];
     if (m > PLAIN_L)
         return 3;
@@ -158,8 +177,7 @@ int plain_share(int64_t n, const uint32_t *weights, size_t count, int64_t *out, 
         return 11;
     left = m;
     for (size_t i = 0; i < count; i++) {
-        share[i] = m * weights[i] / sum;
-        rest[i] = m * weights[i] % sum;
+        share[i] = divided(m, weights[i], sum, &rest[i]);
         left -= share[i];
     }
     for (; left; left--) {

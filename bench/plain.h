@@ -5,10 +5,10 @@
 #include <stddef.h>
 #include <stdint.h>
 
-#define PLAIN_L UINT64_C(99999999999)
+#define PLAIN_L UINT64_C(999999999999999)
 
-/* n / d under a mode, 0 to 6; *refusal is 0 or the number */
-int64_t plain_round(uint8_t mode, int64_t n, uint64_t d, int *refusal);
+/* a x b / d under a mode, 0 to 6; *refusal is 0 or the number */
+int64_t plain_round(uint8_t mode, int64_t a, int64_t b, uint64_t d, int *refusal);
 
 /* an amount in currency `from` at its own digits to currency `to` */
 int64_t plain_convert(uint8_t from, uint8_t scale, int64_t n, uint8_t to, int *refusal);

@@ -7,7 +7,7 @@
 #include <stdlib.h>
 #include <string.h>
 
-#define L INT64_C(99999999999)
+#define L INT64_C(999999999999999)
 #define PARTNERS 16
 #define WEIGHT_SUM 10000
 #define LONGEST 4000

@@ -23,6 +23,10 @@ void set_book(uint32_t W, int partners, int skewed, int unit)
     draw_weights(opened.weights, W, partners, skewed);
 }
 
+static const pair *drawn = pairs;
+
+void set_products(int on) { drawn = on ? products : pairs; }
+
 static uint8_t mode_of(const pair *p) { return mixed ? p->mode : one_mode; }
 
 static plain_date plain_of(mkb_date d) { return (plain_date){d.year, d.month, d.day}; }
@@ -30,22 +34,22 @@ static plain_date plain_of(mkb_date d) { return (plain_date){d.year, d.month, d.
 void round_ours(void)
 {
     for (int i = 0; i < PAIRS; i++)
-        sink += (uint64_t)mkb_round(mode_of(&pairs[i]), pairs[i].n, pairs[i].d).value;
+        sink += (uint64_t)mkb_round(mode_of(&drawn[i]), drawn[i].n, drawn[i].factor, drawn[i].d).value;
 }
 
 void round_plain(void)
 {
     int refusal;
     for (int i = 0; i < PAIRS; i++)
-        sink += (uint64_t)plain_round(mode_of(&pairs[i]), pairs[i].n, pairs[i].d, &refusal);
+        sink += (uint64_t)plain_round(mode_of(&drawn[i]), drawn[i].n, drawn[i].factor, drawn[i].d, &refusal);
 }
 
 int round_agrees(void)
 {
     int ok = 1, refusal;
     for (int i = 0; i < PAIRS; i++) {
-        mkb_whole r = mkb_round(mode_of(&pairs[i]), pairs[i].n, pairs[i].d);
-        ok &= r.value == plain_round(mode_of(&pairs[i]), pairs[i].n, pairs[i].d, &refusal) && r.refusal == refusal;
+        mkb_whole r = mkb_round(mode_of(&drawn[i]), drawn[i].n, drawn[i].factor, drawn[i].d);
+        ok &= r.value == plain_round(mode_of(&drawn[i]), drawn[i].n, drawn[i].factor, drawn[i].d, &refusal) && r.refusal == refusal;
     }
     return ok;
 }

@@ -9,6 +9,8 @@ extern uint64_t sink;
 
 /* HALF_EVEN alone, or each pair's own mode */
 void set_modes(int all);
+/* numerators by the factor 1, or products that no machine word holds */
+void set_products(int on);
 /* how many weights a sharing takes */
 void set_count(size_t n);
 /* whether plain C hands vouchers out one at a time, or the library's way */

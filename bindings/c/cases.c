@@ -8,6 +8,7 @@ int passed, failed;
 /* the mode table: each column is n / 10 */
 static void modes(void)
 {
+    static const int64_t quintillion = INT64_C(1000000000000000000);
     static const int64_t tenths[10] = {55, 25, 16, 11, 10, -10, -11, -16, -25, -55};
     static const int64_t table[7][10] = {
         {6, 3, 2, 2, 1, -1, -2, -2, -3, -6}, {5, 2, 1, 1, 1, -1, -1, -1, -2, -5}, {6, 3, 2, 2, 1, -1, -1, -1, -2, -5},
@@ -15,14 +16,20 @@ static void modes(void)
         {6, 2, 2, 1, 1, -1, -1, -2, -2, -6}};
     for (uint8_t mode = 0; mode < 7; mode++)
         for (int i = 0; i < 10; i++)
-            whole_is("the mode table", mkb_round(mode, tenths[i], 10), 0, table[mode][i]);
-    whole_is("-5/2 HALF_EVEN", mkb_round(MKB_HALF_EVEN, -5, 2), 0, -2);
-    whole_is("-5/2 FLOOR", mkb_round(MKB_FLOOR, -5, 2), 0, -3);
-    whole_is("divisor 0", mkb_round(MKB_FLOOR, -5, 0), MKB_RATE, 0);
-    whole_is("numerator 10^18", mkb_round(MKB_UP, INT64_C(1000000000000000000), 1), 0, INT64_C(1000000000000000000));
-    whole_is("numerator over 10^18", mkb_round(MKB_UP, INT64_C(1000000000000000001), 0), MKB_MAGNITUDE, 0);
-    whole_is("the least numerator", mkb_round(MKB_UP, INT64_MIN, 1), MKB_MAGNITUDE, 0);
-    whole_is("mode 7", mkb_round(7, INT64_MAX, 0), MKB_MODE, 0);
+            whole_is("the mode table", mkb_round(mode, tenths[i], 1, 10), 0, table[mode][i]);
+    whole_is("-5/2 HALF_EVEN", mkb_round(MKB_HALF_EVEN, -5, 1, 2), 0, -2);
+    whole_is("-5/2 FLOOR", mkb_round(MKB_FLOOR, -5, 1, 2), 0, -3);
+    whole_is("divisor 0", mkb_round(MKB_FLOOR, -5, 1, 0), MKB_RATE, 0);
+    whole_is("numerator 10^18", mkb_round(MKB_UP, INT64_C(1000000000000000000), 1, 1), 0, INT64_C(1000000000000000000));
+    whole_is("numerator over 10^18", mkb_round(MKB_UP, INT64_C(1000000000000000001), 1, 0), MKB_MAGNITUDE, 0);
+    whole_is("the least numerator", mkb_round(MKB_UP, INT64_MIN, 1, 1), MKB_MAGNITUDE, 0);
+    whole_is("mode 7", mkb_round(7, INT64_MAX, 1, 0), MKB_MODE, 0);
+    whole_is("10^18 x 10^18 / 10^18", mkb_round(MKB_UP, quintillion, -quintillion, quintillion), 0, -quintillion);
+    whole_is("10^18 x 10^18 / (10^18 - 1)", mkb_round(MKB_UP, quintillion, quintillion, quintillion - 1), MKB_LIMIT, 0);
+    whole_is("10^18 and a half, to the even", mkb_round(MKB_HALF_EVEN, INT64_C(666666666666666667), 3, 2), 0, quintillion);
+    whole_is("10^18 and a half, up", mkb_round(MKB_HALF_UP, INT64_C(666666666666666667), 3, 2), MKB_LIMIT, 0);
+    whole_is("-3 x -5 / 6", mkb_round(MKB_HALF_EVEN, -3, -5, 6), 0, 2);
+    whole_is("second factor over 10^18", mkb_round(MKB_UP, 1, -quintillion - 1, 0), MKB_MAGNITUDE, 0);
 }
 
 static void amounts(void)
@@ -58,6 +65,12 @@ static void euro(void)
     amount_refused("not DEM's digits", mkb_convert(money(DEM, 3, 7), EUR), MKB_SCALE, 0);
     amount_refused("to currency 21", mkb_convert(money(DEM, 2, 7), 21), MKB_UNKNOWN, 0);
     amount_refused("the euro step over L", mkb_convert(money(IEP, 2, MKB_L), DEM), MKB_LIMIT, 0);
+    amount_is("100.00 DEM to FRF by 3 decimals", mkb_convert_by(money(DEM, 2, 10000), FRF, 3), money(FRF, 2, 33538));
+    amount_is("100.00 DEM to FRF by 4 decimals", mkb_convert_by(money(DEM, 2, 10000), FRF, 4), money(FRF, 2, 33539));
+    amount_is("100.00 DEM to FRF by 6 decimals", mkb_convert_by(money(DEM, 2, 10000), FRF, 6), money(FRF, 2, 33539));
+    amount_refused("by 2 decimals", mkb_convert_by(money(DEM, 2, 10000), FRF, 2), MKB_SCALE, 0);
+    amount_refused("by 7 decimals, where no step is made", mkb_convert_by(money(DEM, 2, 10000), DEM, 7), MKB_SCALE, 0);
+    amount_refused("a step of 6 decimals over L", mkb_convert_by(money(DEM, 2, INT64_C(1000000000000)), FRF, 6), MKB_LIMIT, 0);
 }
 
 static void interest(void)

@@ -29,8 +29,8 @@ extern "C" {
 enum mkb_refusal {
     MKB_ACCEPTED = 0,
     MKB_MODE = 1,      /* the mode isn't 0 to 6 */
-    MKB_SCALE = 2,     /* a scale is over 6, or (conversions, the book) isn't the known currency's own digits */
-    MKB_MAGNITUDE = 3, /* a given coefficient or net total is over L, or a plain numerator is over 10^18 */
+    MKB_SCALE = 2,     /* a scale is over 6, or (conversions, the book) isn't the known currency's own digits, or a euro step's decimals aren't 3 to 6 */
+    MKB_MAGNITUDE = 3, /* a given coefficient or net total is over L, or a factor's magnitude is over 10^18 */
     MKB_UNKNOWN = 4,   /* a currency number is over 20 */
     MKB_DIFFER = 5,    /* two currencies that must agree differ */
     MKB_RATE = 6,      /* a plain divisor isn't 1 to 10^18, a rate, a number of vouchers or of periods is outside its limits, or the basis isn't 0 to 3 */
@@ -40,7 +40,7 @@ enum mkb_refusal {
     MKB_NEGATIVE = 10, /* a posting, a refund, a table's principal or a given net total is negative */
     MKB_ROOM = 11,     /* the lent output is too short */
     MKB_REFUND = 12,   /* a refund is greater than the net total */
-    MKB_LIMIT = 13,    /* the result, the euro step, a row of a table or the new net total is over L */
+    MKB_LIMIT = 13,    /* the result, the euro step, a row of a table or the new net total is over L, or a plain quotient over 10^18 */
     MKB_NO_NET = 15    /* no net has the gross */
 };
 
@@ -52,7 +52,7 @@ enum mkb_mode { MKB_UP, MKB_DOWN, MKB_CEILING, MKB_FLOOR, MKB_HALF_UP, MKB_HALF_
 enum mkb_basis { MKB_ACTUAL_360, MKB_ACTUAL_365, MKB_THIRTY_360_AMERICAN, MKB_THIRTY_360_EUROPEAN };
 
 /* the largest magnitude of a coefficient, the places of a book, the largest sum of a book's weights */
-#define MKB_L INT64_C(99999999999)
+#define MKB_L INT64_C(999999999999999)
 #define MKB_PARTNERS 16
 #define MKB_WEIGHT_SUM 10000
 
@@ -129,8 +129,8 @@ typedef struct {
 /* the version of the library */
 uint32_t mkb_version(void);
 
-/* n / d rounded by the mode: refusals 1, 3, 6 */
-mkb_whole mkb_round(int64_t mode, int64_t n, int64_t d);
+/* a x b / d rounded by the mode, the product exact: refusals 1, 3, 6, 13; n / d is the one of the factors n and 1 */
+mkb_whole mkb_round(int64_t mode, int64_t a, int64_t b, int64_t d);
 
 /* the table's line of a currency number; all 0 for any number but 0 to 20 */
 mkb_line mkb_currency(int64_t currency);
@@ -146,6 +146,9 @@ mkb_amount_answer mkb_rescale(mkb_amount a, int64_t scale, int64_t mode);
 
 /* the amount in the currency `to`, by Council Regulation (EC) No 1103/97, articles 4 and 5: refusals 2, 3, 4, 13 */
 mkb_amount_answer mkb_convert(mkb_amount a, int64_t to);
+/* the same by a euro step of 3 to 6 decimals between two old units (mkb_convert's is 3); a step over L is 13, which at 6 decimals is one over
+ * 999,999,999.999999 euro: refusals 2, 3, 4, 13 */
+mkb_amount_answer mkb_convert_by(mkb_amount a, int64_t to, int64_t decimals);
 
 /* whether the Gregorian calendar has the date, from 1900 to 2199 */
 bool mkb_date_exists(mkb_date date);

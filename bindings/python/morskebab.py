@@ -45,7 +45,7 @@ class Basis(IntEnum):
 ACTUAL_360, ACTUAL_365, THIRTY_360_AMERICAN, THIRTY_360_EUROPEAN = Basis
 
 # the largest magnitude of a coefficient, the largest scale, and the most periods of a table
-L = 99_999_999_999
+L = 999_999_999_999_999
 SCALE = 6
 PERIODS = 120
 
@@ -57,9 +57,10 @@ def _accepted(answer: Any) -> Any:
     return answer
 
 
-def plain_quotient(mode: int, n: int, d: int) -> int:
-    """n / d rounded by the mode: refusals 1, 3, 6."""
-    return _accepted(_library.mkb_round(whole(c_int64, "mode", mode), whole(c_int64, "n", n), whole(c_int64, "d", d))).value
+def plain_quotient(mode: int, a: int, b: int, d: int) -> int:
+    """a x b / d rounded by the mode, the product exact: refusals 1, 3, 6, 13. A quotient n / d is the one of the factors n and 1."""
+    factors = whole(c_int64, "a", a), whole(c_int64, "b", b)
+    return _accepted(_library.mkb_round(whole(c_int64, "mode", mode), *factors, whole(c_int64, "d", d))).value
 
 
 class Line(NamedTuple):
@@ -198,6 +199,12 @@ class Amount:
     def convert(self, to: int) -> Amount:
         """In the currency `to`, by Council Regulation (EC) No 1103/97, articles 4 and 5: refusals 2, 3, 4, 13."""
         return Amount._of(_accepted(_library.mkb_convert(self._c(), whole(c_int64, "to", to))).amount)
+
+    def convert_by(self, to: int, decimals: int) -> Amount:
+        """The same by a euro step of 3 to 6 decimals between two old units: refusals 2, 3, 4, 13. A step over L is 13, which at 6 decimals is one
+        over 999,999,999.999999 euro."""
+        answer = _library.mkb_convert_by(self._c(), whole(c_int64, "to", to), whole(c_int64, "decimals", decimals))
+        return Amount._of(_accepted(answer).amount)
 
     def interest(self, rate: int, basis: Basis, start: Date, end: Date, mode: int) -> Amount:
         """This x rate x days / (10,000 x year), rounded once: refusals 1, 2, 3, 4, 6, 7, 8, 13."""

@@ -49,13 +49,14 @@ def _lent(kind: type) -> tuple:
 # each function's answer and parameters, as in morskebab.h
 FUNCTIONS = {
     "mkb_version": (c_uint32,),
-    "mkb_round": (CWhole, c_int64, c_int64, c_int64),
+    "mkb_round": (CWhole, c_int64, c_int64, c_int64, c_int64),
     "mkb_currency": (CLine, c_int64),
     "mkb_sum": (CAmountAnswer, CAmount, CAmount),
     "mkb_order": (COrder, CAmount, CAmount),
     "mkb_negate": (CAmountAnswer, CAmount),
     "mkb_rescale": (CAmountAnswer, CAmount, c_int64, c_int64),
     "mkb_convert": (CAmountAnswer, CAmount, c_int64),
+    "mkb_convert_by": (CAmountAnswer, CAmount, c_int64, c_int64),
     "mkb_date_exists": (c_bool, CDate),
     "mkb_day_count": (CDays, c_int64, CDate, CDate),
     "mkb_interest": (CAmountAnswer, CAmount, c_int64, c_int64, CDate, CDate, c_int64),

@@ -9,7 +9,7 @@ from typing import Any
 REASONS = {
     1: "the mode isn't 0 to 6",
     2: "a scale is over 6, or isn't the currency's own digits",
-    3: "a given coefficient or net total is over L, or a plain numerator over 10^18",
+    3: "a given coefficient or net total is over L, or a factor's magnitude over 10^18",
     4: "a currency number is over 20",
     5: "two currencies that must agree differ",
     6: "a divisor, a rate, a number of vouchers or of periods or the basis is outside its limits",
@@ -19,7 +19,7 @@ REASONS = {
     10: "a posting, a refund, a table's principal or a given net total is negative",
     11: "the lent output is too short",
     12: "a refund is greater than the net total",
-    13: "the result, the euro step, a row of a table or the new net total is over L",
+    13: "the result, the euro step, a row of a table or the new net total is over L, or a plain quotient over 10^18",
     15: "no net has the gross",
 }
 

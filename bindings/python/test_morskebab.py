@@ -61,12 +61,16 @@ def modes():
     }
     for mode, row in table.items():
         for n, rounded in zip(tenths, row):
-            same(plain_quotient(mode, n, 10), rounded)
-    same(plain_quotient(HALF_EVEN, -5, 2), -2)
-    same(plain_quotient(FLOOR, -5, 2), -3)
-    refused(6, lambda: plain_quotient(FLOOR, -5, 0))
-    refused(3, lambda: plain_quotient(UP, 10**18 + 1, 0))
-    refused(1, lambda: plain_quotient(7, -(2**63), 0))
+            same(plain_quotient(mode, n, 1, 10), rounded)
+    same(plain_quotient(HALF_EVEN, -5, 1, 2), -2)
+    same(plain_quotient(FLOOR, -5, 1, 2), -3)
+    refused(6, lambda: plain_quotient(FLOOR, -5, 1, 0))
+    refused(3, lambda: plain_quotient(UP, 10**18 + 1, 1, 0))
+    refused(1, lambda: plain_quotient(7, -(2**63), 1, 0))
+    same(plain_quotient(HALF_EVEN, -3, -5, 6), 2)
+    same(plain_quotient(UP, 10**18, -(10**18), 10**18), -(10**18))
+    refused(13, lambda: plain_quotient(UP, 10**18, 10**18, 10**18 - 1))
+    refused(3, lambda: plain_quotient(UP, 1, 10**18 + 1, 0))
 
 
 def amounts():
@@ -100,8 +104,8 @@ def past_limits():
     refused(4, lambda: -Amount(-1, 2, 1))
     refused(2, lambda: -euros(1, 258))
     refused(2, lambda: euros(1).rescale(-1, UP))
-    refused(1, lambda: plain_quotient(262, -5, 2))
-    refused(6, lambda: plain_quotient(UP, 1, -1))
+    refused(1, lambda: plain_quotient(262, -5, 1, 2))
+    refused(6, lambda: plain_quotient(UP, 1, 1, -1))
     refused(6, lambda: euros(1).tax_as_net(2**32 + 500, UP))
     refused(7, lambda: day_count(ACTUAL_360, Date(67559, 1, 1), Date(2023, 1, 1)), blamed=1)
     refused(4, lambda: Book.open(256, [1]))
@@ -163,6 +167,11 @@ def euro_steps():
     same(Amount(IEP, 2, 2).convert(EUR), euros(3))
     refused(2, lambda: Amount(DEM, 3, 7).convert(EUR))
     refused(13, lambda: Amount(IEP, 2, L).convert(DEM))
+    same(Amount(DEM, 2, 10000).convert_by(FRF, 3), Amount(FRF, 2, 33538))
+    same(Amount(DEM, 2, 10000).convert_by(FRF, 4), Amount(FRF, 2, 33539))
+    refused(2, lambda: Amount(DEM, 2, 10000).convert_by(FRF, 2))
+    refused(2, lambda: Amount(DEM, 2, 10000).convert_by(DEM, 7))
+    refused(13, lambda: Amount(DEM, 2, 10**12).convert_by(FRF, 6))
 
 
 def days():

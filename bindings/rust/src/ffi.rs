@@ -107,13 +107,14 @@ pub fn small(n: i32) -> u8 {
 
 extern "C" {
     pub fn mkb_version() -> u32;
-    pub fn mkb_round(mode: i64, n: i64, d: i64) -> Whole;
+    pub fn mkb_round(mode: i64, a: i64, b: i64, d: i64) -> Whole;
     pub fn mkb_currency(currency: i64) -> Line;
     pub fn mkb_sum(a: Amount, b: Amount) -> AmountAnswer;
     pub fn mkb_order(a: Amount, b: Amount) -> OrderAnswer;
     pub fn mkb_negate(a: Amount) -> AmountAnswer;
     pub fn mkb_rescale(a: Amount, scale: i64, mode: i64) -> AmountAnswer;
     pub fn mkb_convert(a: Amount, to: i64) -> AmountAnswer;
+    pub fn mkb_convert_by(a: Amount, to: i64, decimals: i64) -> AmountAnswer;
     pub fn mkb_date_exists(date: Date) -> bool;
     pub fn mkb_day_count(basis: i64, start: Date, end: Date) -> Days;
     pub fn mkb_interest(principal: Amount, rate: i64, basis: i64, start: Date, end: Date, mode: i64) -> AmountAnswer;

@@ -57,10 +57,10 @@ pub fn version() -> u32 {
     unsafe { ffi::mkb_version() }
 }
 
-/// n / d rounded by the mode: refusals 1, 3, 6.
-pub fn plain_quotient(mode: u8, n: i64, d: u64) -> Result<i64, Refusal> {
+/// a x b / d rounded by the mode, the product exact: refusals 1, 3, 6, 13. A quotient n / d is the one of the factors n and 1.
+pub fn plain_quotient(mode: u8, a: i64, b: i64, d: u64) -> Result<i64, Refusal> {
     // SAFETY: numbers alone cross
-    let r = unsafe { ffi::mkb_round(mode.into(), n, i64::try_from(d).unwrap_or(i64::MAX)) };
+    let r = unsafe { ffi::mkb_round(mode.into(), a, b, i64::try_from(d).unwrap_or(i64::MAX)) };
     Refusal::or(r.refusal, r.blamed, r.value)
 }
 
@@ -129,7 +129,7 @@ impl From<ffi::Split> for Result<Split, Refusal> {
 // SAFETY of the calls below: the structs have the layout of morskebab.h, any values may stand in them, and a slice is lent whole
 impl Amount {
     /// The largest magnitude of a coefficient.
-    pub const L: i64 = 99_999_999_999;
+    pub const L: i64 = 999_999_999_999_999;
 
     pub const fn new(currency: Currency, scale: u8, coefficient: i64) -> Self {
         Amount { currency, scale, coefficient }
@@ -159,6 +159,12 @@ impl Amount {
     /// In the currency `to`, by Council Regulation (EC) No 1103/97, articles 4 and 5: refusals 2, 3, 4, 13.
     pub fn convert(self, to: Currency) -> Result<Amount, Refusal> {
         unsafe { ffi::mkb_convert(self.into(), to.0.into()) }.into()
+    }
+
+    /// The same by a euro step of 3 to 6 decimals between two old units: refusals 2, 3, 4, 13. A step over L is 13, which at 6 decimals is one over
+    /// 999,999,999.999999 euro.
+    pub fn convert_by(self, to: Currency, decimals: u8) -> Result<Amount, Refusal> {
+        unsafe { ffi::mkb_convert_by(self.into(), to.0.into(), decimals.into()) }.into()
     }
 
     /// This x rate x days / (10,000 x year), rounded once: refusals 1, 2, 3, 4, 6, 7, 8, 13.

@@ -15,7 +15,7 @@ pub enum Refusal {
     Mode,
     /// 2: a scale is over 6, or (conversions, the book) isn't the known currency's own digits
     Scale,
-    /// 3: a given coefficient or net total is over L, or a plain numerator is over 10^18
+    /// 3: a given coefficient or net total is over L, or a factor's magnitude is over 10^18
     Magnitude,
     /// 4: a currency number is over 20
     Unknown,
@@ -35,7 +35,7 @@ pub enum Refusal {
     Room,
     /// 12: a refund is greater than the net total
     Refund,
-    /// 13: the result, the euro step, a row of a table or the new net total is over L
+    /// 13: the result, the euro step, a row of a table or the new net total is over L, or a plain quotient over 10^18
     Limit,
     /// 15: no net has the gross
     NoNet,
@@ -67,7 +67,7 @@ impl Refusal {
         match self {
             Refusal::Mode => "the mode isn't 0 to 6",
             Refusal::Scale => "a scale is over 6, or isn't the currency's own digits",
-            Refusal::Magnitude => "a given coefficient or net total is over L, or a plain numerator over 10^18",
+            Refusal::Magnitude => "a given coefficient or net total is over L, or a factor's magnitude over 10^18",
             Refusal::Unknown => "a currency number is over 20",
             Refusal::Differ => "two currencies that must agree differ",
             Refusal::Rate => "a divisor, a rate, a number of vouchers or of periods or the basis is outside its limits",
@@ -78,7 +78,7 @@ impl Refusal {
             Refusal::Negative => "a posting, a refund, a table's principal or a given net total is negative",
             Refusal::Room => "the lent output is too short",
             Refusal::Refund => "a refund is greater than the net total",
-            Refusal::Limit => "the result, the euro step, a row of a table or the new net total is over L",
+            Refusal::Limit => "the result, the euro step, a row of a table or the new net total is over L, or a plain quotient over 10^18",
             Refusal::NoNet => "no net has the gross",
         }
     }

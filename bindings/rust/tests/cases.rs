@@ -8,6 +8,8 @@ const FRF: Currency = Currency(4);
 const IEP: Currency = Currency(5);
 const ITL: Currency = Currency(6);
 
+const QUINTILLION: i64 = 1_000_000_000_000_000_000;
+
 fn euros(cents: i64) -> Amount {
     Amount::new(EUR, 2, cents)
 }
@@ -26,16 +28,20 @@ fn seven_modes() {
     ];
     for (number, row) in table.iter().enumerate() {
         for (n, rounded) in tenths.iter().zip(row) {
-            assert_eq!(plain_quotient(number as u8, *n, 10), Ok(*rounded));
+            assert_eq!(plain_quotient(number as u8, *n, 1, 10), Ok(*rounded));
         }
     }
-    assert_eq!(plain_quotient(mode::HALF_EVEN, -5, 2), Ok(-2));
-    assert_eq!(plain_quotient(mode::FLOOR, -5, 2), Ok(-3));
-    assert_eq!(plain_quotient(mode::FLOOR, -5, 0), Err(Refusal::Rate));
-    assert_eq!(plain_quotient(mode::UP, i64::MIN, 0), Err(Refusal::Magnitude));
-    assert_eq!(plain_quotient(7, i64::MIN, 0), Err(Refusal::Mode));
-    assert_eq!(plain_quotient(mode::UP, 1, u64::MAX), Err(Refusal::Rate));
-    assert_eq!(plain_quotient(mode::UP, 1, 1 << 63), Err(Refusal::Rate));
+    assert_eq!(plain_quotient(mode::HALF_EVEN, -5, 1, 2), Ok(-2));
+    assert_eq!(plain_quotient(mode::FLOOR, -5, 1, 2), Ok(-3));
+    assert_eq!(plain_quotient(mode::FLOOR, -5, 1, 0), Err(Refusal::Rate));
+    assert_eq!(plain_quotient(mode::UP, i64::MIN, 1, 0), Err(Refusal::Magnitude));
+    assert_eq!(plain_quotient(7, i64::MIN, 1, 0), Err(Refusal::Mode));
+    assert_eq!(plain_quotient(mode::UP, 1, 1, u64::MAX), Err(Refusal::Rate));
+    assert_eq!(plain_quotient(mode::HALF_EVEN, -3, -5, 6), Ok(2));
+    assert_eq!(plain_quotient(mode::UP, 1, i64::MAX, 0), Err(Refusal::Magnitude));
+    assert_eq!(plain_quotient(mode::UP, QUINTILLION, -QUINTILLION, 1_000_000_000_000_000_000), Ok(-QUINTILLION));
+    assert_eq!(plain_quotient(mode::UP, QUINTILLION, QUINTILLION, 999_999_999_999_999_999), Err(Refusal::Limit));
+    assert_eq!(plain_quotient(mode::UP, 1, 1, 1 << 63), Err(Refusal::Rate));
 }
 
 #[test]
@@ -95,6 +101,11 @@ fn euro_steps() {
     assert_eq!(euros(2).convert(IEP), Ok(Amount::new(IEP, 2, 2)));
     assert_eq!(Amount::new(IEP, 2, 2).convert(EUR), Ok(euros(3)));
     assert_eq!(Amount::new(IEP, 2, Amount::L).convert(DEM), Err(Refusal::Limit));
+    assert_eq!(Amount::new(DEM, 2, 10_000).convert_by(FRF, 3), Ok(Amount::new(FRF, 2, 33_538)));
+    assert_eq!(Amount::new(DEM, 2, 10_000).convert_by(FRF, 6), Ok(Amount::new(FRF, 2, 33_539)));
+    assert_eq!(Amount::new(DEM, 2, 10_000).convert_by(FRF, 2), Err(Refusal::Scale));
+    assert_eq!(Amount::new(DEM, 2, 10_000).convert_by(DEM, 7), Err(Refusal::Scale));
+    assert_eq!(Amount::new(DEM, 2, 1_000_000_000_000).convert_by(FRF, 6), Err(Refusal::Limit));
 }
 
 #[test]
