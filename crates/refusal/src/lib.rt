@@ -39,6 +39,8 @@ pub enum Refusal {
     Limit,
     // 15: no net has the gross
     NoNet,
+    // 16: a double is no number or infinite
+    NoNumber,
 }
 
 // The answer of a check: nothing to refuse, or the first row that holds.
@@ -61,7 +63,7 @@ impl Blamed {
 
 impl Refusal {
     // The table's last number.
-    pub const LAST: u8 = 15;
+    pub const LAST: u8 = 16;
 
     // The table's number.
     pub fn number(self) -> u8
@@ -82,6 +84,7 @@ impl Refusal {
             Refusal::Refund => 12,
             Refusal::Limit => 13,
             Refusal::NoNet => 15,
+            Refusal::NoNumber => 16,
         }
     }
 
@@ -104,6 +107,7 @@ impl Refusal {
             Refusal::Refund => 0,
             Refusal::Limit => 0,
             Refusal::NoNet => 0,
+            Refusal::NoNumber => 0,
         }
     }
 }

@@ -1,0 +1,10 @@
+pub mod Worth
+pub mod Fields
+pub mod Columns
+pub mod NoNumber
+pub mod Taking
+pub mod Division
+pub mod Zeros
+pub mod Unique
+pub mod ExactlyWhen
+pub mod Lines
