@@ -1,6 +1,7 @@
 -- From the checks of a call to its promise: what passed is within the limits that the running totals ask, and the answer of a passed
 -- or a refused call is the one that its rows say. Assumes nothing.
 use mathlib.Core.Path.{_≡_, sym, ap, subst, _∙_}
+use mathlib.Core.Bool.{false}
 use mathlib.Core.List.{List, [], _∷_, _++_}
 use Prim.Native.Nat.{ℕ, _+_, _-_, _≤_}
 use native.Mathlib.Nat.{le-refl}
@@ -20,11 +21,13 @@ use Rattle.amount.specs.Amounts.{largest, overL}
 use Rattle.units.specs.Rule.{totals}
 use Rattle.book.specs.declared.Book.{Book}
 use Rattle.book.specs.declared.Moved.{Moved}
-use Rattle.book.specs.Books.{partners, weightSum, zeros, weightRows, withBook, bookRows}
+use Rattle.book.specs.Settled.{anyOver}
+use Rattle.book.specs.Books.{partners, weightSum, zeros, settledSum, weightRows, withBook, bookRows}
 use Rattle.book.specs.Moves.{netOf, unitsOf, moveRows, postRows, refundRows, postSaid, refundSaid, lessOf, paidOf, takenOf, Answers, Posts, Refunds, zeroBook, openBook, openRows, openSaid, openedBook, Opens, totalsSaid, totalsOf, Tallies}
 use Rattle.refusal.proofs.Joined.{both-passed}
 use Rattle.running.proofs.Places.{sum-past}
 use Rattle.book.proofs.Lists.{sum-padded, sum-padding}
+use Rattle.book.proofs.SettledTotals.{limit-by}
 
 module _ (b : Book) (a : Amount) where
   -- a book and an amount that passed rows 2 to 10
@@ -33,23 +36,29 @@ module _ (b : Book) (a : Amount) where
     pub net : netOf b ≤ largest
     pub some : 1 ≤ sumOf (b .weights)
     pub most : sumOf (b .weights) ≤ weightSum
+    pub over : anyOver (b .settled) ≡ false
+    pub limit : settledSum b + netOf b ≤ largest
 
   pub move-fit : checkOf (moveRows b a) ≡ Passed → Fit
   unfolding moveRows withBook weightRows
   move-fit e =
       let rows = clear (moveRows b a) e in
-      let weights = rows .1 .1 .1 .1 .1 .1 .1 in
+      let weights = rows .1 .1 .1 .1 .1 .1 .1 .1 .1 in
+      let signs = weights .1 .1 .1 .1 .1 .1 .1 .1 .1 in
       record {
         units = ltb-false largest (unitsOf a) (rows .1 .1 .0);
         net = ltb-false largest (netOf b) (rows .1 .1 .1 .0);
         some = ltb-false (sumOf (b .weights)) 1 (weights .1 .1 .1 .0);
         most = ltb-false weightSum (sumOf (b .weights)) (weights .1 .1 .1 .1 .0);
+        over = rows .1 .1 .1 .1 .0;
+        limit = limit-by (b .net) (b .settled) (rows .1 .1 .1 .1 .1 .0) (signs .0) (signs .1 .0);
       }
 
-  pub post-fit : checkOf (postRows b a) ≡ Passed → Fit × (netOf b + unitsOf a ≤ largest)
+  pub post-fit : checkOf (postRows b a) ≡ Passed → Fit × (settledSum b + (netOf b + unitsOf a) ≤ largest)
   post-fit e =
-      let parts = both-passed (moveRows b a) (row Limit (overL (netOf b + unitsOf a)) ∷ []) e in
-      (move-fit (parts .0), ltb-false largest (netOf b + unitsOf a) (clear (row Limit (overL (netOf b + unitsOf a)) ∷ []) (parts .1) .0))
+      let last = row Limit (overL (settledSum b + (netOf b + unitsOf a))) ∷ [] in
+      let parts = both-passed (moveRows b a) last e in
+      (move-fit (parts .0), ltb-false largest (settledSum b + (netOf b + unitsOf a)) (clear last (parts .1) .0))
 
   pub refund-fit : checkOf (refundRows b a) ≡ Passed → Fit × (unitsOf a ≤ netOf b)
   refund-fit e =

@@ -23,6 +23,8 @@ use Rattle.book.specs.declared.Book.{Book}
 use Rattle.book.specs.declared.Moved.{Moved}
 use Rattle.book.specs.declared.Opened.{Opened}
 use Rattle.book.specs.Books.{partners, zeros, weightRows, withBook}
+use Rattle.book.specs.Cards.{newCard, cardedRows, cardSaid, cardBook, Cards}
+use Rattle.book.specs.History.{Begins, openedBy, cardedBy}
 use Rattle.book.specs.Moves.{netOf, unitsOf, moveRows, postRows, refundRows, postSaid, refundSaid, nextBook, lessOf, paidOf, takenOf, Answers, Posts, Refunds, Opens, openRows, openSaid, openBook}
 use Rattle.running.proofs.Places.{less-place, less-sum}
 use Rattle.book.proofs.Lists.{sum-padded}
@@ -108,7 +110,7 @@ module _ (opened b : Book) (r : Moved) (stands : Stands opened b) where
   pub refund-stands : (a : Amount) → Refunds b a r → Stands opened (r .book)
   refund-stands a = next (refundSaid b a) (takenOf b (refundSaid b a)) (λ n e. refund-moves b a n e .2)
 
--- a book just opened: sixteen places, someone has a weight, and nothing has been paid
+-- a card's first book: sixteen places, someone has a weight, and nothing has been paid
 pub record Fresh (opened : Book) : Type 0 where
   pub sixteen : length (opened .weights) ≡ partners
   pub some : 1 ≤ sumOf (opened .weights)
@@ -125,6 +127,27 @@ opening c ws opened e =
       empty = refl;
       stands = record { same = refl; limit = omega arith };
     })
+
+-- an accepted new card's is so too
+pub carding : (b : Book) (ws : List ℕ) (next : Book) → cardSaid b ws ≡ gives next → Fresh next
+unfolding cardSaid newCard withBook weightRows nextBook
+carding b ws next e =
+    let k = no-row (cardedRows b ws) (newCard b ws) next e in
+    rw (← k .1) (record {
+      sixteen = simp (length-append, length-replicate) (omega (arith, ltb-false));
+      some = rw sum-padded (omega (arith, ltb-false));
+      empty = refl;
+      stands = record { same = refl; limit = omega arith };
+    })
+
+pub beginning : {b : Book} → Begins b → Fresh b
+beginning (openedBy c ws b e) = opening c ws b e
+beginning (cardedBy old ws b e) = carding old ws b e
+
+-- a refused new card changes nothing and pays nothing
+pub refused-card : (b : Book) (ws : List ℕ) (r : Moved) (n k : ℕ) → cardSaid b ws ≡ refuses n k → Cards b ws r → (r .book ≡ b) × (r .payouts ≡ zeros)
+unfolding cardBook
+refused-card b ws r n k e p = (p .book ∙ ap (cardBook b) e, p .paid)
 
 -- an opening that passed was accepted, and gave the book that it answered
 pub passed-opening : (c : Currency) (ws : List ℕ) (r : Opened) → Opens c ws r → r .outcome ≡ Passed → openSaid c ws ≡ gives (r .book)

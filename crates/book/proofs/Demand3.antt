@@ -1,5 +1,5 @@
--- Demand 3. After any history of postings, refunds and refused calls on an opened book, the running totals are those of document
--- 01's rule at the net total N, and so add to N and lie between the exact shares rounded down and rounded up; whatever the batches.
+-- Demand 3, "of each card by itself". After any history of postings, refunds and refused calls on a card's first book, the running totals are those
+-- of document 01's rule at the card's net total N, and so add to N and lie between the exact shares rounded down and rounded up; whatever the batches.
 -- What a history begins is a history, so all of it holds after each call. Assumes nothing.
 use mathlib.Core.Path.{_≡_, sym, ap, _∙_}
 use mathlib.Core.List.{List}
@@ -10,7 +10,6 @@ use lib.ListN.{getD}
 use Rattle.refusal.specs.Rows.{gives, refuses}
 use Rattle.whole.proofs.Sums.{sumTo, sum-list, sum-same}
 use Rattle.amount.specs.declared.Amount.{Amount}
-use Rattle.currency.specs.declared.Currency.{Currency}
 use Rattle.amount.specs.Amounts.{largest}
 use Rattle.units.specs.Rule.{totals}
 use Rattle.units.specs.Counted.{countOf}
@@ -21,10 +20,10 @@ use Rattle.units.proofs.Counted.{counted}
 use Rattle.book.specs.declared.Book.{Book}
 use Rattle.book.specs.declared.Moved.{Moved}
 use Rattle.book.specs.Books.{partners, zeros}
-use Rattle.book.specs.Moves.{netOf, postSaid, refundSaid, nextBook, paidOf, takenOf, Posts, Refunds, openSaid}
-use Rattle.book.specs.History.{plusOf, History, refunded, postings, refunds, running, Kept}
+use Rattle.book.specs.Moves.{netOf, postSaid, refundSaid, nextBook, paidOf, takenOf, Posts, Refunds}
+use Rattle.book.specs.History.{plusOf, Begins, History, refunded, postings, refunds, running, Kept}
 use Rattle.book.proofs.Lists.{plus-place}
-use Rattle.book.proofs.Calls.{Fresh, opening}
+use Rattle.book.proofs.Calls.{Fresh, beginning}
 use Rattle.book.proofs.Histories.{After, after}
 use Rattle.book.proofs.NetIs.{net-of-history}
 
@@ -33,12 +32,14 @@ pub record Contract (opened b : Book) : Type 0 where
   pub currency : b .currency ≡ opened .currency
   pub count : b .count ≡ opened .count
   pub weights : b .weights ≡ opened .weights
+  pub card : b .card ≡ opened .card
+  pub settled : b .settled ≡ opened .settled
   pub net : b .net ≡ pos (netOf b)
   pub limit : netOf b ≤ largest
 
-module _ (c : Currency) (ws : List ℕ) (opened : Book) (accepted : openSaid c ws ≡ gives opened) where
+module _ (opened : Book) (begins : Begins opened) where
   fresh : Fresh opened
-  fresh = opening c ws opened accepted
+  fresh = beginning begins
 
   module _ {b : Book} {paid taken : List ℕ} (h : History opened b paid taken) where
     ends : After opened b paid taken
@@ -53,6 +54,8 @@ module _ (c : Currency) (ws : List ℕ) (opened : Book) (accepted : openSaid c w
           currency = ap (λ (x : Book). x .currency) e;
           count = ap (λ (x : Book). x .count) e;
           weights = ap (λ (x : Book). x .weights) e;
+          card = ap (λ (x : Book). x .card) e;
+          settled = ap (λ (x : Book). x .settled) e;
           net = ap (λ (x : Book). x .net) e;
           limit = ends .stands .limit;
         }

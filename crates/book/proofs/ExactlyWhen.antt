@@ -15,6 +15,7 @@ use Rattle.units.specs.Rule.{totals}
 use Rattle.book.specs.declared.Book.{Book}
 use Rattle.book.specs.Books.{netOf, weightRows, withBook, bookRows, listedRows}
 use Rattle.book.specs.Moves.{unitsOf, moveRows, postRows, refundRows, postSaid, refundSaid, openBook, openRows, openSaid, totalsSaid}
+use Rattle.book.specs.Cards.{newCard, cardedRows, cardSaid}
 
 -- what a call says is number n
 abbrev pub Numbered : {A : Type 0} → Said A → ℕ → Type 0
@@ -55,9 +56,17 @@ module _ (b : Book) where
   unfolding withBook weightRows
   book-rises = tt
 
+  card-rises : (ws : List ℕ) → T (rising (cardedRows b ws))
+  unfolding withBook weightRows
+  card-rises ws = tt
+
   pub totals-exactly-when : ExactlyBy (totalsSaid b) (bookRows b)
   unfolding totalsSaid Given
   totals-exactly-when n = exactly-when (totals (b .weights) (netOf b)) n (bookRows b) book-rises
+
+  pub card-exactly-when : (ws : List ℕ) → ExactlyBy (cardSaid b ws) (cardedRows b ws)
+  unfolding cardSaid Given
+  card-exactly-when ws n = exactly-when (newCard b ws) n (cardedRows b ws) (card-rises ws)
 
   -- a book with lists
   pub listed-rises : (broken short : Bool) → T (rising (listedRows b broken short))

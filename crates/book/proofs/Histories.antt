@@ -12,9 +12,9 @@ use Rattle.units.proofs.Added.{totals-none}
 use Rattle.book.specs.declared.Book.{Book}
 use Rattle.book.specs.Books.{partners}
 use Rattle.book.specs.Moves.{netOf, nextBook}
-use Rattle.book.specs.History.{History, none, posted, refunded}
+use Rattle.book.specs.History.{History, none, posted, refunded, uncarded}
 use Rattle.book.proofs.Lists.{plus-place, plus-sum}
-use Rattle.book.proofs.Calls.{posting-pays, refund-takes, Stands, posting-stands, refund-stands, Fresh}
+use Rattle.book.proofs.Calls.{posting-pays, refund-takes, Stands, posting-stands, refund-stands, Fresh, refused-card}
 
 pub record After (opened b : Book) (paid taken : List ℕ) : Type 0 where
   pub stands : Stands opened b
@@ -49,3 +49,11 @@ module _ (opened : Book) (fresh : Fresh opened) where
         places = λ i. rw plus-place (omega (arith, k .places i, m .places i));
         added = rw plus-sum (omega arith);
       }
+  after (uncarded {b = b} h ws r p n k e) =
+      let m = after h in
+      let q = refused-card b ws r n k e p in
+      rw (q .0, q .1) (record {
+        stands = m .stands;
+        places = λ i. rw (plus-place, getD-noughts partners i) (omega (arith, m .places i));
+        added = rw (plus-sum, sum-noughts partners) (omega (arith, m .added));
+      })

@@ -9,8 +9,8 @@ use Rattle.amount.specs.declared.Amount.{Amount}
 use Rattle.book.specs.declared.Book.{Book}
 use Rattle.book.specs.declared.Moved.{Moved}
 use Rattle.book.specs.Moves.{netOf, unitsOf, postSaid, refundSaid, nextBook, paidOf, takenOf, Answers, Posts, Refunds}
-use Rattle.book.specs.History.{History, none, posted, refunded, acceptedOf, postings, refunds}
-use Rattle.book.proofs.Calls.{posting-net, refund-net, Fresh}
+use Rattle.book.specs.History.{History, none, posted, refunded, uncarded, acceptedOf, postings, refunds}
+use Rattle.book.proofs.Calls.{posting-net, refund-net, Fresh, refused-card}
 
 module _ (b : Book) (a : Amount) (r : Moved) where
   posting-adds : Posts b a r → netOf (r .book) ≡ netOf b + acceptedOf (postSaid b a) (unitsOf a)
@@ -35,3 +35,4 @@ module _ {opened : Book} (fresh : Fresh opened) where
   net-of-history none = omega (arith, fresh .empty)
   net-of-history (posted {b = b} h a r p) = omega (arith, net-of-history h, posting-adds b a r p)
   net-of-history (refunded {b = b} h a r p) = omega (arith, net-of-history h, refund-takes b a r p)
+  net-of-history (uncarded {b = b} h ws r p n k e) = omega (arith, net-of-history h, ap netOf (refused-card b ws r n k e p .0))

@@ -15,6 +15,7 @@ use Rattle.book.specs.declared.Opened.{Opened}
 use Rattle.book.specs.declared.Moved.{Moved}
 use Rattle.book.specs.declared.Totals.{Totals}
 use Rattle.book.specs.Moves.{Answers, Posts, Refunds, Opens, Tallies}
+use Rattle.book.specs.Cards.{Cards}
 
 same-answer : (b : Book) (said : Said ℕ) (payouts : List ℕ) (r s : Moved) → Answers b said payouts r → Answers b said payouts s → r ≡ s
 same-answer b said payouts r s p q =
@@ -27,6 +28,12 @@ one-post b a = same-answer b _ _
 
 pub one-refund : (b : Book) (a : Amount) (r s : Moved) → Refunds b a r → Refunds b a s → r ≡ s
 one-refund b a = same-answer b _ _
+
+pub one-card : (b : Book) (ws : List ℕ) (r s : Moved) → Cards b ws r → Cards b ws s → r ≡ s
+one-card b ws r s p q =
+    let outcome : r .outcome ≡ s .outcome = same-outcome (r .outcome) (s .outcome) _ _ (p .outcome ∙ sym (q .outcome)) in
+    let book : r .book ≡ s .book = p .book ∙ sym (q .book) in
+    let paid : r .payouts ≡ s .payouts = p .paid ∙ sym (q .paid) in λ i. record { outcome = outcome i; book = book i; payouts = paid i }
 
 pub one-open : (c : Currency) (ws : List ℕ) (r s : Opened) → Opens c ws r → Opens c ws s → r ≡ s
 one-open c ws r s p q =

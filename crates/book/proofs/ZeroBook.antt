@@ -5,6 +5,7 @@ use mathlib.Core.Bool.{Bool, true, false}
 use mathlib.Core.List.{List, [], _∷_, _++_}
 use Prim.Native.Nat.{ℕ, _≤_}
 use native.Mathlib.Omega.{arith}
+use lib.IntN.{pos}
 use lib.ListN.{drop}
 use Rattle.refusal.specs.Number.{numberOf, blamedOf}
 use Rattle.refusal.specs.Rows.{Said, refuses, Row, row, numberAt, firstRow}
@@ -13,9 +14,11 @@ use Rattle.refusal.specs.declared.Refusal.the-variants.{Weights}
 use Rattle.amount.specs.declared.Amount.{Amount}
 use Rattle.currency.specs.declared.Currency.{Currency}
 use Rattle.book.specs.declared.Opened.{Opened}
-use Rattle.book.specs.Books.{weightRows, withBook, listedRows}
+use Rattle.book.specs.Settled.{above, below, someOf, anyOver, sumOver}
+use Rattle.book.specs.Books.{unsettled, weightRows, withBook, listedRows}
 use Rattle.book.specs.Checks.{givenRows}
 use Rattle.book.specs.Moves.{unitsOf, moveRows, postRows, refundRows, postSaid, refundSaid, totalsSaid, zeroBook, Opens, openSaid, openedBook}
+use Rattle.book.specs.Cards.{cardSaid}
 
 -- what a call says is a refusal of number m or a lower one
 abbrev pub RefusedBy : {A : Type 0} → ℕ → Said A → Type 0
@@ -33,23 +36,32 @@ stopped value [] rows r up = (numberOf r, blamedOf r, refl, omega arith)
 stopped value (row s true ∷ front) rows r up = (numberOf s, blamedOf s, refl, up .0)
 stopped value (row s false ∷ front) rows r up = stopped value front rows r (up .1)
 
+-- the rows of an amount and of the book in front of its count
+abbrev front : Amount → List Row
+front a = givenRows (a .scale) (unitsOf a) (a .currency) 0 (anyOver unsettled) (sumOver (pos 0 ∷ unsettled)) (record { 0 = 0 })
+
 module _ (a : Amount) where
   pub zero-posting : RefusedBy 9 (postSaid zeroBook a)
   unfolding postSaid moveRows withBook givenRows weightRows zeroBook
-  zero-posting = stopped _ (givenRows (a .scale) (unitsOf a) (a .currency) 0 (record { 0 = 0 })) (drop 8 (postRows zeroBook a)) Weights (omega arith)
+  zero-posting = stopped _ (front a) (drop 10 (postRows zeroBook a)) Weights (omega arith)
 
   pub zero-refund : RefusedBy 9 (refundSaid zeroBook a)
   unfolding refundSaid moveRows withBook givenRows weightRows zeroBook
-  zero-refund = stopped _ (givenRows (a .scale) (unitsOf a) (a .currency) 0 (record { 0 = 0 })) (drop 8 (refundRows zeroBook a)) Weights (omega arith)
+  zero-refund = stopped _ (front a) (drop 10 (refundRows zeroBook a)) Weights (omega arith)
 
 pub zero-totals : totalsSaid zeroBook ≡ refuses 9 0
-unfolding totalsSaid withBook weightRows zeroBook
+unfolding totalsSaid withBook weightRows zeroBook above below someOf
 zero-totals = refl
 
 -- and so is every call that takes it with lists, a run of calls too
 pub zero-listed : {A : Type 0} (value : Said A) (broken short : Bool) → firstRow (listedRows zeroBook broken short) value ≡ refuses 9 0
-unfolding listedRows withBook weightRows zeroBook
+unfolding listedRows withBook weightRows zeroBook above below someOf
 zero-listed value broken short = refl
+
+-- and a new card
+pub zero-card : (ws : List ℕ) → cardSaid zeroBook ws ≡ refuses 9 0
+unfolding cardSaid withBook weightRows zeroBook above below someOf
+zero-card ws = refl
 
 -- it is what a refused opening hands back
 pub refused-opening : (c : Currency) (ws : List ℕ) (r : Opened) (n k : ℕ) → openSaid c ws ≡ refuses n k → Opens c ws r → r .book ≡ zeroBook

@@ -20,7 +20,7 @@ use Rattle.book.specs.declared.Book.{Book}
 use Rattle.book.specs.declared.Opened.{Opened}
 use Rattle.book.specs.declared.Moved.{Moved}
 use Rattle.book.specs.declared.Totals.{Totals}
-use Rattle.book.specs.Books.{partners, zeros, bookAt, weightRows, withBook, bookRows}
+use Rattle.book.specs.Books.{partners, zeros, unsettled, settledSum, bookAt, weightRows, withBook, bookRows}
 pub use Rattle.book.specs.Books.{netOf}
 
 -- an amount's A as a number: it isn't negative where a call is accepted
@@ -42,9 +42,10 @@ moveRows b a =
     []
     (row Negative (negative (a .coefficient)) ∷ [])
 
--- row 13, "the new net total has a magnitude over L"; row 12, "a refund is greater than the net total"
+-- row 13, "the new net total has a magnitude over L", and Ask 9: "A posting that would take that sum over L gets 13", the sum of settled totals
+-- and N, which is not below N; row 12, "a refund is greater than the net total", the card's
 abbrev pub postRows : Book → Amount → List Row
-postRows b a = moveRows b a ++ (row Limit (overL (netOf b + unitsOf a)) ∷ [])
+postRows b a = moveRows b a ++ (row Limit (overL (settledSum b + (netOf b + unitsOf a))) ∷ [])
 
 abbrev pub refundRows : Book → Amount → List Row
 refundRows b a = moveRows b a ++ (row Refund (ltb (netOf b) (unitsOf a)) ∷ [])
@@ -85,11 +86,15 @@ Refunds b a r = Answers b (refundSaid b a) (takenOf b (refundSaid b a)) r
 
 -- the book whose every field is 0
 unfoldable pub zeroBook : Book
-zeroBook = record { currency = record { 0 = 0 }; count = 0; weights = zeros; net = pos 0 }
+zeroBook = record { currency = record { 0 = 0 }; count = 0; weights = zeros; net = pos 0; card = 0; settled = unsettled }
 
--- "It opens with N = 0": the weights in front, those past the count 0
+-- a list of weights in sixteen places: those past the count 0
+abbrev pub placedIn : List ℕ → List ℕ
+placedIn ws = ws ++ replicate (partners - length ws) 0
+
+-- "It opens with N = 0": the weights in front, those past the count 0; "a card number from 1 (at the opening)", "settled totals, at first 0"
 unfoldable pub openBook : Currency → List ℕ → Book
-openBook c ws = record { currency = c; count = length ws; weights = ws ++ replicate (partners - length ws) 0; net = pos 0 }
+openBook c ws = record { currency = c; count = length ws; weights = placedIn ws; net = pos 0; card = 1; settled = unsettled }
 
 -- an opening takes a currency and weights: rows 4 and 9
 abbrev pub openRows : Currency → List ℕ → List Row

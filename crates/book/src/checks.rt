@@ -1,5 +1,7 @@
 // The rows of the table of refusals that a call on a book can hold, each part a check of its own.
 use crate::Book;
+use crate::Past;
+use crate::settled::past_of;
 use crate::weights::check_weights;
 use amount::Amount;
 use currency::Currency;
@@ -9,18 +11,26 @@ use refusal::Refusal;
 use whole::is_negative;
 use whole::magnitude;
 ghost use mathlib.Core.Path.{_≡_};
-ghost use mathlib.Core.List.{_∷_, _++_};
-ghost use Rattle.refusal.specs.Rows.{row, checkOf};
-ghost use Rattle.refusal.specs.declared.Refusal.the-variants.{Magnitude, Unknown};
-ghost use Rattle.amount.specs.Amounts.{overL};
-ghost use Rattle.currency.specs.Table.{unknown};
-ghost use Rattle.book.specs.Books.{netOf, weightRows, listedRows};
+ghost use mathlib.Core.Bool.{cond};
+ghost use mathlib.Core.List.{_++_};
+ghost use Rattle.refusal.specs.Rows.{checkOf};
+ghost use Rattle.whole.specs.Whole.{negative};
+ghost use Rattle.book.specs.Settled.{anyOver};
+ghost use Rattle.book.specs.Books.{netOf, settledSum, cardRows, listedRows};
 ghost use Rattle.book.specs.Moves.{unitsOf, moveRows, postRows, refundRows};
-ghost use Rattle.book.specs.Checks.{givenRows, signRows, lastRows};
+ghost use Rattle.book.specs.Checks.{Tells, givenRows, contractRows, signRows, lastRows, frontRows};
 
 // Rows 2 to 5 at an amount and at a book: m and n are the magnitudes of the coefficient and of the net total.
-fn check_given(scale: u8, m: u64, currency: Currency, n: u64, own: Currency) -> Checked
-    ensures { λ r. ⌜ r ≡ checkOf (givenRows scale m currency n own) ⌝ }
+fn check_given(
+    scale: u8,
+    m: u64,
+    currency: Currency,
+    n: u64,
+    over: bool,
+    full: bool,
+    own: Currency,
+) -> Checked
+    ensures { λ r. ⌜ r ≡ checkOf (givenRows scale m currency n over full own) ⌝ }
 {
     if Amount::SCALE < scale {
         return Checked::Refused(Refusal::Scale);
@@ -32,6 +42,12 @@ fn check_given(scale: u8, m: u64, currency: Currency, n: u64, own: Currency) -> 
         return Checked::Refused(Refusal::Magnitude);
     }
     if Amount::L < n {
+        return Checked::Refused(Refusal::Magnitude);
+    }
+    if over {
+        return Checked::Refused(Refusal::Magnitude);
+    }
+    if full {
         return Checked::Refused(Refusal::Magnitude);
     }
     if Currency::LAST < currency.0 {
@@ -46,9 +62,9 @@ fn check_given(scale: u8, m: u64, currency: Currency, n: u64, own: Currency) -> 
     Checked::Passed
 }
 
-// Row 10 at an amount and at a book.
-fn check_signs(amount: bool, net: bool) -> Checked
-    ensures { λ r. ⌜ r ≡ checkOf (signRows amount net) ⌝ }
+// Row 10 at an amount and at a book's net total and settled totals.
+fn check_signs(amount: bool, net: bool, settled: bool) -> Checked
+    ensures { λ r. ⌜ r ≡ checkOf (signRows amount net settled) ⌝ }
 {
     if amount {
         return Checked::Refused(Refusal::Negative);
@@ -56,7 +72,36 @@ fn check_signs(amount: bool, net: bool) -> Checked
     if net {
         return Checked::Refused(Refusal::Negative);
     }
+    if settled {
+        return Checked::Refused(Refusal::Negative);
+    }
     Checked::Passed
+}
+
+// Row 9 at a card number and at what is past the count.
+fn check_card(card: u16, behind: bool) -> Checked
+    ensures { λ r. ⌜ r ≡ checkOf (cardRows card behind) ⌝ }
+{
+    if card < 1 {
+        return Checked::Refused(Refusal::Weights);
+    }
+    if Book::CARDS < card {
+        return Checked::Refused(Refusal::Weights);
+    }
+    if behind {
+        return Checked::Refused(Refusal::Weights);
+    }
+    Checked::Passed
+}
+
+// Row 9 at a book.
+fn check_contract(count: usize, weights: [u32; Book::PARTNERS], card: u16, behind: bool) -> Checked
+    ensures { λ r. ⌜ r ≡ checkOf (contractRows count weights card behind) ⌝ }
+{
+    match check_weights(count, weights) {
+        Checked::Refused(refusal) => Checked::Refused(refusal),
+        Checked::Passed => check_card(card, behind),
+    }
 }
 
 // N, the book's net total, and A, the amount's units: neither is negative where a call is accepted.
@@ -72,45 +117,75 @@ pub(crate) fn units_of(amount: Amount) -> u64
     magnitude(amount.coefficient)
 }
 
-// Rows 9 and 10: the weights, then the signs of the amount and of the net total.
-fn check_standing(count: usize, weights: [u32; Book::PARTNERS], amount: bool, net: bool) -> Checked
-    ensures { λ r. ⌜ r ≡ checkOf (weightRows count weights ++ signRows amount net) ⌝ }
+// What is to be known of a book's settled totals.
+fn past_in(book: Book) -> Past
+    ensures { λ r. ⌜ Tells (book .settled) (book .count) (book .net) r ⌝ }
 {
-    match check_weights(count, weights) {
+    let settled = book.settled;
+    past_of(settled, book.count as usize, book.net)
+}
+
+// Rows 9 and 10: the weights and the card, then the signs of the amount, of the net total and of the settled totals.
+fn check_standing(
+    count: usize,
+    weights: [u32; Book::PARTNERS],
+    card: u16,
+    behind: bool,
+    amount: bool,
+    net: bool,
+    settled: bool,
+) -> Checked
+    ensures { λ r. ⌜ r ≡ checkOf (contractRows count weights card behind ++ signRows amount net settled) ⌝ }
+{
+    match check_contract(count, weights, card, behind) {
         Checked::Refused(refusal) => Checked::Refused(refusal),
-        Checked::Passed => check_signs(amount, net),
+        Checked::Passed => check_signs(amount, net, settled),
     }
 }
 
 // Rows 2 to 10 of a posting or a refund.
-fn check_move(book: Book, amount: Amount) -> Checked
+fn check_move(book: Book, past: Past, amount: Amount) -> Checked
+    requires { ⌜ Tells (book .settled) (book .count) (book .net) past ⌝ }
     ensures { λ r. ⌜ r ≡ checkOf (moveRows book amount) ⌝ }
 {
     let units = units_of(amount);
     let net = net_of(book);
     let currency = amount.currency;
     let own = book.currency;
-    match check_given(amount.scale, units, currency, net, own) {
+    match check_given(
+        amount.scale,
+        units,
+        currency,
+        net,
+        past.over,
+        past.full,
+        own,
+    ) {
         Checked::Refused(refusal) => Checked::Refused(refusal),
         Checked::Passed => {
             let weights = book.weights;
             check_standing(
                 book.count as usize,
                 weights,
+                book.card,
+                past.behind,
                 is_negative(amount.coefficient),
                 is_negative(book.net),
+                past.negative,
             )
         },
     }
 }
 
-// The rows of a posting; row 13 last, where the sum of two numbers within L can't wrap.
+// The rows of a posting; row 13 last, where the sum of numbers within L can't wrap.
 pub(crate) fn check_post(book: Book, amount: Amount) -> Checked
     ensures { λ r. ⌜ r ≡ checkOf (postRows book amount) ⌝ }
 {
-    match check_move(book, amount) {
+    let past = past_in(book);
+    let settled = past.sum;
+    match check_move(book, past, amount) {
         Checked::Refused(refusal) => Checked::Refused(refusal),
-        Checked::Passed => if Amount::L < net_of(book) + units_of(amount) {
+        Checked::Passed => if Amount::L < settled + (net_of(book) + units_of(amount)) {
             Checked::Refused(Refusal::Limit)
         } else {
             Checked::Passed
@@ -122,7 +197,7 @@ pub(crate) fn check_post(book: Book, amount: Amount) -> Checked
 pub(crate) fn check_refund(book: Book, amount: Amount) -> Checked
     ensures { λ r. ⌜ r ≡ checkOf (refundRows book amount) ⌝ }
 {
-    match check_move(book, amount) {
+    match check_move(book, past_in(book), amount) {
         Checked::Refused(refusal) => Checked::Refused(refusal),
         Checked::Passed => if net_of(book) < units_of(amount) {
             Checked::Refused(Refusal::Refund)
@@ -132,14 +207,17 @@ pub(crate) fn check_refund(book: Book, amount: Amount) -> Checked
     }
 }
 
-// Rows 9, 10 and 11 behind a book's weights.
-fn check_last(broken: bool, net: bool, short: bool) -> Checked
-    ensures { λ r. ⌜ r ≡ checkOf (lastRows broken net short) ⌝ }
+// Rows 9, 10 and 11 behind a book's weights and card.
+fn check_last(broken: bool, net: bool, settled: bool, short: bool) -> Checked
+    ensures { λ r. ⌜ r ≡ checkOf (lastRows broken net settled short) ⌝ }
 {
     if broken {
         return Checked::Refused(Refusal::Weights);
     }
     if net {
+        return Checked::Refused(Refusal::Negative);
+    }
+    if settled {
         return Checked::Refused(Refusal::Negative);
     }
     if short {
@@ -148,27 +226,33 @@ fn check_last(broken: bool, net: bool, short: bool) -> Checked
     Checked::Passed
 }
 
-// Rows 3, 4 and 9 at a book's parts, and those behind.
-fn check_parts(
-    n: u64,
-    own: Currency,
-    count: usize,
-    weights: [u32; Book::PARTNERS],
-    broken: bool,
-    net: bool,
-    short: bool,
-) -> Checked
-    ensures { λ r. ⌜ r ≡ checkOf (row Magnitude (overL n) ∷ row Unknown (unknown own) ∷ weightRows count weights ++ lastRows broken net short) ⌝ }
+// Rows 3 and 4 at a book.
+fn check_front(n: u64, over: bool, full: bool, own: Currency) -> Checked
+    ensures { λ r. ⌜ r ≡ checkOf (frontRows n over full own) ⌝ }
 {
     if Amount::L < n {
+        return Checked::Refused(Refusal::Magnitude);
+    }
+    if over {
+        return Checked::Refused(Refusal::Magnitude);
+    }
+    if full {
         return Checked::Refused(Refusal::Magnitude);
     }
     if Currency::LAST < own.0 {
         return Checked::Refused(Refusal::Unknown);
     }
-    match check_weights(count, weights) {
+    Checked::Passed
+}
+
+// Row 9 at a book, and the rows behind it.
+fn check_rest(book: Book, past: Past, broken: bool, short: bool) -> Checked
+    ensures { λ r. ⌜ r ≡ checkOf (contractRows (book .count) (book .weights) (book .card) (past .behind) ++ lastRows broken (negative (book .net)) (past .negative) short) ⌝ }
+{
+    let weights = book.weights;
+    match check_contract(book.count as usize, weights, book.card, past.behind) {
         Checked::Refused(refusal) => Checked::Refused(refusal),
-        Checked::Passed => check_last(broken, net, short),
+        Checked::Passed => check_last(broken, is_negative(book.net), past.negative, short),
     }
 }
 
@@ -178,15 +262,18 @@ impl Book {
         ensures { λ r. ⌜ r ≡ checkOf (listedRows self broken short) ⌝ }
     {
         let own = self.currency;
-        let weights = self.weights;
-        check_parts(
-            net_of(self),
-            own,
-            self.count as usize,
-            weights,
-            broken,
-            is_negative(self.net),
-            short,
-        )
+        let past = past_in(self);
+        match check_front(net_of(self), past.over, past.full, own) {
+            Checked::Refused(refusal) => Checked::Refused(refusal),
+            Checked::Passed => check_rest(self, past, broken, short),
+        }
+    }
+
+    // The settled totals added; 0 where one is over L.
+    pub fn settled_sum(self) -> u64
+        ensures { λ r. ⌜ r ≡ cond (anyOver (self .settled)) 0 (settledSum self) ⌝ }
+    {
+        let past = past_in(self);
+        past.sum
     }
 }

@@ -55,11 +55,14 @@ impl Book {
     {
         let currency = self.currency;
         let weights = self.weights;
+        let settled = self.settled;
         Book {
             currency,
             count: self.count,
             weights,
             net,
+            card: self.card,
+            settled,
         }
     }
 

@@ -33,6 +33,16 @@ pub(crate) fn check_weights(count: usize, weights: [u32; Book::PARTNERS]) -> Che
     Checked::Passed
 }
 
+// Row 9 at a list of weights, which is summed only where it has places in a book.
+pub(crate) fn check_list(weights: &[u32]) -> Checked
+    ensures { λ r. ⌜ r ≡ checkOf (weightRows (length (now (weights .entry))) (now (weights .entry))) ⌝ }
+{
+    if Book::PARTNERS < weights.len() {
+        return Checked::Refused(Refusal::Weights);
+    }
+    check_weights(weights.len(), placed(weights))
+}
+
 // A list of at most sixteen weights, with noughts behind it.
 pub(crate) fn placed(list: &[u32]) -> [u32; Book::PARTNERS]
     requires { ⌜ length (now list) ≤ partners ⌝ }

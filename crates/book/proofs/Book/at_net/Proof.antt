@@ -10,7 +10,7 @@ use Rattle.book.proofs.Book.at_net.Tie as tie
 
 returns : tie.Need-returns
 returns c =
-    let a = c .before .before .args in
+    let a = c .before .before .before .args in
     let fits : SFits w64 (a .net) = search needs in
     ap (bookAt (a .self)) (toZ-ofZ w64 (a .net) fits)
 

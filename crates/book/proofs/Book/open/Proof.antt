@@ -8,6 +8,7 @@ use lib.IntN.{pos}
 use lib.ListN.{length}
 use Rattle.refusal.specs.declared.Checked.the-variants.{Passed}
 use Rattle.refusal.specs.Rows.{checkOf}
+use Rattle.book.specs.Books.{unsettled}
 use Rattle.book.specs.Moves.{openBook, openRows}
 use Rattle.book.proofs.Answered.{open-fit, open-refused, open-passed}
 use Rattle.book.proofs.Book.open.Statement.{statement}
@@ -48,8 +49,8 @@ returns-2 : tie.Need-returns-2
 unfolding openBook
 returns-2 c =
     let a = c .before .before .before .before .before .args in
-    open-passed (a .currency) (a .weights .now) (record { currency = a .currency; count = length (a .weights .now); weights = c .placed .result; net = pos 0 })
-    (passed (c .before)) (ap (λ (ws : List ℕ). record { currency = a .currency; count = length (a .weights .now); weights = ws; net = pos 0 }) (c .placed .ensures))
+    open-passed (a .currency) (a .weights .now) (record { currency = a .currency; count = length (a .weights .now); weights = c .placed .result; net = pos 0; card = 1; settled = unsettled })
+    (passed (c .before)) (ap (λ (ws : List ℕ). record { currency = a .currency; count = length (a .weights .now); weights = ws; net = pos 0; card = 1; settled = unsettled }) (c .placed .ensures))
 
 pub open-spec : {M : Type 1} → statement M
 open-spec =

@@ -6,6 +6,7 @@ use borrow.Author.Needs.{needs}
 use Rattle.refusal.specs.declared.Checked.the-variants.{Passed}
 use Rattle.refusal.specs.Rows.{checkOf}
 use Rattle.amount.specs.Amounts.{largest}
+use Rattle.book.specs.Books.{settledSum}
 use Rattle.book.specs.Moves.{netOf, unitsOf, postRows}
 use Rattle.book.proofs.Answered.{Fit, post-fit, post-refused, post-passed}
 use Rattle.book.proofs.Book.post.Statement.{statement}
@@ -32,7 +33,7 @@ net-of-requires c κs = search needs
 units-of-requires : tie.Need-units-of-requires
 units-of-requires c κs = search needs
 
-fit : (c : tie.After-units-of) → Fit (c .before .before .before .before .before .args .self) (c .before .before .before .before .before .args .amount) × (netOf (c .before .before .before .before .before .args .self) + unitsOf (c .before .before .before .before .before .args .amount) ≤ largest)
+fit : (c : tie.After-units-of) → Fit (c .before .before .before .before .before .args .self) (c .before .before .before .before .before .args .amount) × (settledSum (c .before .before .before .before .before .args .self) + (netOf (c .before .before .before .before .before .args .self) + unitsOf (c .before .before .before .before .before .args .amount)) ≤ largest)
 fit c = post-fit (c .before .before .before .before .before .args .self) (c .before .before .before .before .before .args .amount) (passed (c .before .before))
 
 add-next : tie.Need-add-next

@@ -13,8 +13,7 @@ not-own-digits-requires c κs = search needs
 returns : tie.Need-returns
 unfolding givenRows
 returns c =
-    rw
-    (lt-ltb _ _ (c .if1 .taken))
+    rw (lt-ltb _ _ (c .if1 .taken))
 
 returns-2 : tie.Need-returns-2
 unfolding givenRows
@@ -46,60 +45,82 @@ returns-4 c =
 returns-5 : tie.Need-returns-5
 unfolding givenRows
 returns-5 c =
-    let b = c .before .before in
     rw (
-      le-ltb _ _ (c .before .before .before .before .before .before .if1 .left),
-      sym (c .before .before .before .before .before .not-own-digits .ensures) ∙ c .before .before .before .before .if2 .left,
-      le-ltb _ _ (c .before .before .before .if3 .left),
-      le-ltb _ _ (c .before .before .if4 .left),
-      lt-ltb _ _ (c .if5 .taken),
+      le-ltb _ _ (c .before .before .before .before .before .if1 .left),
+      sym (c .before .before .before .before .not-own-digits .ensures) ∙ c .before .before .before .if2 .left,
+      le-ltb _ _ (c .before .before .if3 .left),
+      le-ltb _ _ (c .before .if4 .left),
+      c .if5 .taken,
     )
 
 returns-6 : tie.Need-returns-6
 unfolding givenRows
 returns-6 c =
-    let k = c .before .before in
-    let b = k .before .before in
     rw (
-      le-ltb _ _ (c .before .before .before .before .before .before .before .before .if1 .left),
-      sym (c .before .before .before .before .before .before .before .not-own-digits .ensures) ∙ c .before .before .before .before .before .before .if2 .left,
-      le-ltb _ _ (c .before .before .before .before .before .if3 .left),
-      le-ltb _ _ (c .before .before .before .before .if4 .left),
-      le-ltb _ _ (c .before .before .if5 .left),
-      lt-ltb _ _ (c .if6 .taken),
+      le-ltb _ _ (c .before .before .before .before .before .before .if1 .left),
+      sym (c .before .before .before .before .before .not-own-digits .ensures) ∙ c .before .before .before .before .if2 .left,
+      le-ltb _ _ (c .before .before .before .if3 .left),
+      le-ltb _ _ (c .before .before .if4 .left),
+      c .before .if5 .left,
+      c .if6 .taken,
     )
 
 returns-7 : tie.Need-returns-7
 unfolding givenRows
 returns-7 c =
-    let l = c .before .before .before in
-    let k = l .before .before in
-    let b = k .before .before in
     rw (
-      le-ltb _ _ (c .before .before .before .before .before .before .before .before .before .before .before .if1 .left),
-      sym (c .before .before .before .before .before .before .before .before .before .before .not-own-digits .ensures) ∙ c .before .before .before .before .before .before .before .before .before .if2 .left,
-      le-ltb _ _ (c .before .before .before .before .before .before .before .before .if3 .left),
-      le-ltb _ _ (c .before .before .before .before .before .before .before .if4 .left),
-      le-ltb _ _ (c .before .before .before .before .before .if5 .left),
-      le-ltb _ _ (c .before .before .before .if6 .left),
-      ap not (ne-eqb _ _ (c .if7 .taken)),
+      le-ltb _ _ (c .before .before .before .before .before .before .before .before .if1 .left),
+      sym (c .before .before .before .before .before .before .before .not-own-digits .ensures) ∙ c .before .before .before .before .before .before .if2 .left,
+      le-ltb _ _ (c .before .before .before .before .before .if3 .left),
+      le-ltb _ _ (c .before .before .before .before .if4 .left),
+      c .before .before .before .if5 .left,
+      c .before .before .if6 .left,
+      lt-ltb _ _ (c .if7 .taken),
     )
 
 returns-8 : tie.Need-returns-8
 unfolding givenRows
 returns-8 c =
-    let l = c .before .before .before in
-    let k = l .before .before in
-    let b = k .before .before in
     rw (
-      le-ltb _ _ (c .before .before .before .before .before .before .before .before .before .before .before .if1 .left),
-      sym (c .before .before .before .before .before .before .before .before .before .before .not-own-digits .ensures) ∙ c .before .before .before .before .before .before .before .before .before .if2 .left,
-      le-ltb _ _ (c .before .before .before .before .before .before .before .before .if3 .left),
-      le-ltb _ _ (c .before .before .before .before .before .before .before .if4 .left),
-      le-ltb _ _ (c .before .before .before .before .before .if5 .left),
-      le-ltb _ _ (c .before .before .before .if6 .left),
-      ap not (eq-eqb _ _ (c .if7 .left)),
+      le-ltb _ _ (c .before .before .before .before .before .before .before .before .before .before .if1 .left),
+      sym (c .before .before .before .before .before .before .before .before .before .not-own-digits .ensures) ∙ c .before .before .before .before .before .before .before .before .if2 .left,
+      le-ltb _ _ (c .before .before .before .before .before .before .before .if3 .left),
+      le-ltb _ _ (c .before .before .before .before .before .before .if4 .left),
+      c .before .before .before .before .before .if5 .left,
+      c .before .before .before .before .if6 .left,
+      le-ltb _ _ (c .before .before .if7 .left),
+      lt-ltb _ _ (c .if8 .taken),
+    )
+
+returns-9 : tie.Need-returns-9
+unfolding givenRows
+returns-9 c =
+    rw (
+      le-ltb _ _ (c .before .before .before .before .before .before .before .before .before .before .before .before .before .if1 .left),
+      sym (c .before .before .before .before .before .before .before .before .before .before .before .before .not-own-digits .ensures) ∙ c .before .before .before .before .before .before .before .before .before .before .before .if2 .left,
+      le-ltb _ _ (c .before .before .before .before .before .before .before .before .before .before .if3 .left),
+      le-ltb _ _ (c .before .before .before .before .before .before .before .before .before .if4 .left),
+      c .before .before .before .before .before .before .before .before .if5 .left,
+      c .before .before .before .before .before .before .before .if6 .left,
+      le-ltb _ _ (c .before .before .before .before .before .if7 .left),
+      le-ltb _ _ (c .before .before .before .if8 .left),
+      ap not (ne-eqb _ _ (c .if9 .taken)),
+    )
+
+returns-10 : tie.Need-returns-10
+unfolding givenRows
+returns-10 c =
+    rw (
+      le-ltb _ _ (c .before .before .before .before .before .before .before .before .before .before .before .before .before .if1 .left),
+      sym (c .before .before .before .before .before .before .before .before .before .before .before .before .not-own-digits .ensures) ∙ c .before .before .before .before .before .before .before .before .before .before .before .if2 .left,
+      le-ltb _ _ (c .before .before .before .before .before .before .before .before .before .before .if3 .left),
+      le-ltb _ _ (c .before .before .before .before .before .before .before .before .before .if4 .left),
+      c .before .before .before .before .before .before .before .before .if5 .left,
+      c .before .before .before .before .before .before .before .if6 .left,
+      le-ltb _ _ (c .before .before .before .before .before .if7 .left),
+      le-ltb _ _ (c .before .before .before .if8 .left),
+      ap not (eq-eqb _ _ (c .if9 .left)),
     )
 
 pub check-given-spec : {M : Type 1} → statement M
-check-given-spec = tie.close (tie.spec returns not-own-digits-requires returns-2 returns-3 returns-4 returns-5 returns-6 returns-7 returns-8)
+check-given-spec = tie.close (tie.spec returns not-own-digits-requires returns-2 returns-3 returns-4 returns-5 returns-6 returns-7 returns-8 returns-9 returns-10)

@@ -9,7 +9,10 @@ returns-2 : tie.Need-returns-2
 returns-2 c = rw (c .before .if1 .left, c .if2 .taken)
 
 returns-3 : tie.Need-returns-3
-returns-3 c = rw (c .before .if1 .left, c .if2 .left)
+returns-3 c = rw (c .before .before .if1 .left, c .before .if2 .left, c .if3 .taken)
+
+returns-4 : tie.Need-returns-4
+returns-4 c = rw (c .before .before .if1 .left, c .before .if2 .left, c .if3 .left)
 
 pub check-signs-spec : {M : Type 1} → statement M
-check-signs-spec = tie.close (tie.spec returns returns-2 returns-3)
+check-signs-spec = tie.close (tie.spec returns returns-2 returns-3 returns-4)

@@ -1,39 +1,17 @@
--- Too many weights are refused unsummed; the others are summed in a book's places, where noughts behind them change no row. Assumes nothing.
-use mathlib.Core.Path.{ap, _∙_}
-use mathlib.Core.List.{List}
-use Prim.Native.Nat.{ℕ, _-_, _≤_}
-use native.Mathlib.Omega.{arith}
+-- The currency number decides first, and behind it the weights. Assumes nothing.
 use borrow.Author.Needs.{needs}
 use borrow.Author.Tests.{lt-ltb, le-ltb}
-use lib.ListN.{length}
-use Rattle.refusal.specs.Rows.{checkOf}
-use Rattle.book.specs.Books.{weightRows}
-use Rattle.book.proofs.Answered.{padded-rows}
 use Rattle.book.proofs.opening.check_open.Statement.{statement}
 use Rattle.book.proofs.opening.check_open.Tie as tie
 
 returns : tie.Need-returns
 returns c = rw (lt-ltb _ _ (c .if1 .taken))
 
+check-list-requires : tie.Need-check-list-requires
+check-list-requires c κs = search needs
+
 returns-2 : tie.Need-returns-2
-unfolding weightRows
-returns-2 c =
-    let ws = c .before .before .before .before .args .weights .now in
-    let some : 1 ≤ length ws = omega arith in
-    rw (le-ltb _ _ (c .before .if1 .left), le-ltb (length ws) 1 some, lt-ltb _ _ (c .if2 .taken))
-
-placed-requires : tie.Need-placed-requires
-placed-requires c κs = search needs
-
-check-weights-requires : tie.Need-check-weights-requires
-check-weights-requires c κs = search needs
-
-returns-3 : tie.Need-returns-3
-returns-3 c =
-    let ws = c .before .before .before .before .before .before .args .weights .now in
-    rw (le-ltb _ _ (c .before .before .before .if1 .left))
-    (c .check-weights .ensures ∙ ap (λ (l : List ℕ). checkOf (weightRows (length ws) l)) (c .before .placed .ensures) ∙ padded-rows ws (16 - length ws))
+returns-2 c = rw (le-ltb _ _ (c .before .if1 .left)) (c .check-list .ensures)
 
 pub check-open-spec : {M : Type 1} → statement M
-check-open-spec =
-    tie.close (tie.spec returns returns-2 placed-requires check-weights-requires returns-3)
+check-open-spec = tie.close (tie.spec returns check-list-requires returns-2)
