@@ -1,5 +1,5 @@
 -- What is left of a call where no row of the book itself holds: the rows of its coefficient alone, by its sign and magnitude m, at net
--- total n. That a call says so is in proofs/Standing.antt. Cited by src/tabled.rt. Assumes nothing.
+-- total n, on a book whose settled totals sum to `settled`. That a call says so is in proofs/Standing.antt. Cited by src/tabled.rt. Assumes nothing.
 use mathlib.Core.Path.{_≡_}
 use mathlib.Core.Bool.{Bool, cond}
 use mathlib.Core.List.{List, [], _∷_}
@@ -27,11 +27,11 @@ abbrev pub leftRows : Bool → ℕ → Row → List Row
 leftRows negative m last = row Magnitude (overL m) ∷ row Negative negative ∷ last ∷ []
 
 -- the new net total, or the refusal
-unfoldable pub leftSaid : (refund : Bool) → Bool → (m n : ℕ) → Said ℕ
-leftSaid refund negative m n =
+unfoldable pub leftSaid : (settled : ℕ) (refund : Bool) → Bool → (m n : ℕ) → Said ℕ
+leftSaid settled refund negative m n =
     cond refund
     (firstRow (leftRows negative m (row Refund (ltb n m))) (gives (n - m)))
-    (firstRow (leftRows negative m (row Limit (overL (n + m)))) (gives (n + m)))
+    (firstRow (leftRows negative m (row Limit (overL (settled + (n + m))))) (gives (n + m)))
 
 -- the net total after a call at n
 unfoldable pub leftNet : ℕ → Said ℕ → ℕ
@@ -44,8 +44,8 @@ leftPays refund ws n (gives m) = cond refund (lessOf (totals ws n) (totals ws m)
 leftPays refund ws n (refuses number blamed) = zeros
 
 -- call j at net total n is served: the next net total with its running totals, the call's payouts and its number written
-pub record Stepped (ws : List ℕ) (refund : Bool) (c : ℤ) (j n : ℕ) (payouts numbers : List ℕ) (next : ℕ) (ts payouts′ numbers′ : List ℕ) : Type 0 where
-  pub net : next ≡ leftNet n (leftSaid refund (negative c) (magnitudeOf c) n)
+pub record Stepped (settled : ℕ) (ws : List ℕ) (refund : Bool) (c : ℤ) (j n : ℕ) (payouts numbers : List ℕ) (next : ℕ) (ts payouts′ numbers′ : List ℕ) : Type 0 where
+  pub net : next ≡ leftNet n (leftSaid settled refund (negative c) (magnitudeOf c) n)
   pub held : ts ≡ totals ws next
-  pub paid : payouts′ ≡ written payouts (j * partners) (leftPays refund ws n (leftSaid refund (negative c) (magnitudeOf c) n)) partners
-  pub said : numbers′ ≡ set numbers j (numberSaid (leftSaid refund (negative c) (magnitudeOf c) n))
+  pub paid : payouts′ ≡ written payouts (j * partners) (leftPays refund ws n (leftSaid settled refund (negative c) (magnitudeOf c) n)) partners
+  pub said : numbers′ ≡ set numbers j (numberSaid (leftSaid settled refund (negative c) (magnitudeOf c) n))

@@ -22,10 +22,10 @@ ghost use Rattle.bulk.specs.Serving.{Fit, Served};
 ghost use Rattle.bulk.specs.Left.{Sound, leftSaid, Stepped};
 ghost use Rattle.cycle.specs.Cycle.{Weighed, Cycled};
 
-// The number of a call of magnitude m at a net total: 0 where it is accepted.
-fn check_call(refund: bool, negative: bool, m: u64, net: u64) -> u8
-    requires { ⌜ net ≤ largest ⌝ }
-    ensures { λ r. ⌜ r ≡ numberSaid (leftSaid refund negative m net) ⌝ }
+// The number of a call of magnitude m at a net total, beside so much that is settled: 0 where it is accepted.
+fn check_call(refund: bool, negative: bool, m: u64, settled: u64, net: u64) -> u8
+    requires { ⌜ settled + net ≤ largest ⌝ }
+    ensures { λ r. ⌜ r ≡ numberSaid (leftSaid settled refund negative m net) ⌝ }
 {
     if Amount::L < m {
         return Refusal::Magnitude.number();
@@ -38,7 +38,7 @@ fn check_call(refund: bool, negative: bool, m: u64, net: u64) -> u8
             return Refusal::Refund.number();
         }
     } else {
-        if Amount::L < net + m {
+        if Amount::L < settled + (net + m) {
             return Refusal::Limit.number();
         }
     }
@@ -66,6 +66,7 @@ fn step(
     refund: bool,
     coefficient: i64,
     j: usize,
+    settled: u64,
     net: u64,
     held: &mut [u64; Book::PARTNERS],
     payouts: &mut [u64],
@@ -73,13 +74,13 @@ fn step(
 ) -> u64
     requires { ⌜ Weighed weights sum ⌝ }
     requires { ⌜ Cycled weights sum (now table) ⌝ }
-    requires { ⌜ (net ≤ largest) × (now held ≡ totals weights net) ⌝ }
+    requires { ⌜ (settled + net ≤ largest) × (now held ≡ totals weights net) ⌝ }
     requires { ⌜ (j * partners + partners ≤ length (now payouts)) × (j < length (now numbers)) ⌝ }
-    ensures { λ r. ⌜ Stepped weights refund coefficient j net (now (payouts .entry)) (now (numbers .entry)) r (now (held .exit)) (now (payouts .exit)) (now (numbers .exit)) ⌝ }
+    ensures { λ r. ⌜ Stepped settled weights refund coefficient j net (now (payouts .entry)) (now (numbers .entry)) r (now (held .exit)) (now (payouts .exit)) (now (numbers .exit)) ⌝ }
 {
     let at = j * Book::PARTNERS;
     let m = magnitude(coefficient);
-    let number = check_call(refund, is_negative(coefficient), m, net);
+    let number = check_call(refund, is_negative(coefficient), m, settled, net);
     numbers[j] = number;
     if number != 0 {
         write(payouts, at, [0; Book::PARTNERS]);
@@ -116,6 +117,7 @@ fn by_rows(
     ensures { λ r. ⌜ (r ≤ largest) × Served book (now (refunds .entry)) (now (coefficients .entry)) (now (payouts .entry)) (now (numbers .entry)) (nextBook book (gives r)) (now (payouts .exit)) (now (numbers .exit)) ⌝ }
 {
     let weights = book.weights;
+    let settled = book.settled_sum();
     let mut net = magnitude(book.net);
     let mut held = totals_by(weights, sum, table, net);
     let mut j = 0;
@@ -127,6 +129,7 @@ fn by_rows(
             refunds[j],
             coefficients[j],
             j,
+            settled,
             net,
             &mut held,
             payouts,

@@ -16,12 +16,13 @@ use Rattle.book.specs.declared.Opened.{Opened}
 use Rattle.book.specs.declared.Moved.{Moved}
 use Rattle.book.specs.declared.Totals.{Totals}
 use Rattle.book.specs.Moves.{Answers, openSaid, Opens, totalsSaid, Tallies}
+use Rattle.book.specs.Cards.{cardSaid, Cards}
 use Rattle.bulk.specs.declared.Ran.{Ran}
 use Rattle.bulk.specs.Runs.{bookAfter, runSaid, Serves}
 use Rattle.flat.specs.declared.MkbBook.{MkbBook}
 use Rattle.flat.specs.Given.{bookFrom}
 use Rattle.flat.specs.Answers.{refusalOf, blamedOf}
-use Rattle.flat.specs.Books.{bookOf, bookBehind, handedBack, openedOf, movedOf, runningOf, ranOf, openedFlat, movedFlat, totalsFlat, ranFlat}
+use Rattle.flat.specs.Books.{bookOf, bookBehind, handedBack, openedOf, movedOf, cardedOf, runningOf, ranOf, openedFlat, movedFlat, totalsFlat, ranFlat}
 
 number-of : {A : Type 0} (o : Checked) (value : A) → numberIn o ≡ refusalOf (meansOutcome o value)
 number-of Passed value = refl
@@ -55,6 +56,14 @@ opened c ws r p =
 pub moved : (payouts : Book → Said ℕ → List ℕ) (given : MkbBook) (said : Said ℕ) (r : Moved)
     → Answers (bookFrom given) said (payouts (bookFrom given) said) r → movedFlat given r ≡ movedOf payouts given said
 moved payouts given said r p =
+    let number = said-number (r .outcome) _ said (p .outcome) in
+    let blamed = said-blamed (r .outcome) _ said (p .outcome) in
+    let book = said-book (r .outcome) _ said (p .outcome) given (r .book) _ (p .book) in
+    λ i. record { refusal = number i; blamed = blamed i; book = book i; payouts = p .paid i }
+
+pub carded : (given : MkbBook) (ws : List ℕ) (r : Moved) → Cards (bookFrom given) ws r → movedFlat given r ≡ cardedOf given (cardSaid (bookFrom given) ws)
+carded given ws r p =
+    let said : Said Book = cardSaid (bookFrom given) ws in
     let number = said-number (r .outcome) _ said (p .outcome) in
     let blamed = said-blamed (r .outcome) _ said (p .outcome) in
     let book = said-book (r .outcome) _ said (p .outcome) given (r .book) _ (p .book) in

@@ -12,7 +12,9 @@ use Rattle.book.specs.declared.Book.{Book}
 use Rattle.book.specs.declared.Opened.{Opened}
 use Rattle.book.specs.declared.Moved.{Moved}
 use Rattle.book.specs.declared.Totals.{Totals}
+use Rattle.book.specs.Books.{zeros}
 use Rattle.book.specs.Moves.{nextBook, openedBook, totalsOf}
+use Rattle.book.specs.Cards.{cardBook}
 use Rattle.bulk.specs.declared.Ran.{Ran}
 use Rattle.bulk.specs.Runs.{bookAfter, servedOf}
 use Rattle.flat.specs.declared.MkbBook.{MkbBook}
@@ -25,7 +27,7 @@ use Rattle.flat.specs.Answers.{refusalOf, blamedOf}
 
 -- a book, field for field
 abbrev pub bookOf : Book → MkbBook
-bookOf b = record { currency = pos (b .currency .0); count = pos (b .count); weights = b .weights; net = b .net }
+bookOf b = record { currency = pos (b .currency .0); count = pos (b .count); weights = b .weights; net = b .net; card = pos (b .card); settled = b .settled }
 
 -- "returns the book it was given, field for field" where a call on it is refused; else the next book
 abbrev pub bookBehind : {A : Type 0} → Said A → MkbBook → Book → MkbBook
@@ -44,6 +46,16 @@ movedOf payouts given said =
       blamed = blamedOf said;
       book = bookBehind said given (nextBook (bookFrom given) said);
       payouts = payouts (bookFrom given) said;
+    }
+
+-- a new card, which pays zeros
+abbrev pub cardedOf : MkbBook → Said Book → MkbMoved
+cardedOf given said =
+    record {
+      refusal = refusalOf said;
+      blamed = blamedOf said;
+      book = bookBehind said given (cardBook (bookFrom given) said);
+      payouts = zeros;
     }
 
 -- the running totals

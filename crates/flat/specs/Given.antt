@@ -39,4 +39,4 @@ abbrev pub dateFrom : MkbDate → Date
 dateFrom d = record { year = passed16 (d .year); month = passed8 (d .month); day = passed8 (d .day) }
 
 abbrev pub bookFrom : MkbBook → Book
-bookFrom b = record { currency = currencyFrom (b .currency); count = passed8 (b .count); weights = b .weights; net = b .net }
+bookFrom b = record { currency = currencyFrom (b .currency); count = passed8 (b .count); weights = b .weights; net = b .net; card = passed16 (b .card); settled = b .settled }

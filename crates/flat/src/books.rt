@@ -5,6 +5,7 @@ use crate::MkbOpened;
 use crate::MkbRan;
 use crate::MkbTotals;
 use crate::numbers::to_field;
+use crate::numbers::to_wide_field;
 use book::Book;
 use book::Moved;
 use book::Opened;
@@ -18,11 +19,14 @@ fn flat_book(book: Book) -> MkbBook
     ensures { λ r. ⌜ r ≡ bookOf book ⌝ }
 {
     let weights = book.weights;
+    let settled = book.settled;
     MkbBook {
         currency: to_field(book.currency.0),
         count: to_field(book.count),
         weights,
         net: book.net,
+        card: to_wide_field(book.card),
+        settled,
     }
 }
 

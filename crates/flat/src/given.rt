@@ -42,10 +42,13 @@ pub fn given_book(given: MkbBook) -> Book
     ensures { λ r. ⌜ r ≡ bookFrom given ⌝ }
 {
     let weights = given.weights;
+    let settled = given.settled;
     Book {
         currency: given_currency(from_field(given.currency)),
         count: pass_u8(from_field(given.count)),
         weights,
         net: given.net,
+        card: pass_u16(from_field(given.card)),
+        settled,
     }
 }

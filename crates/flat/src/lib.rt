@@ -52,6 +52,8 @@ pub struct MkbBook {
     pub count: i32,
     pub weights: [u32; Book::PARTNERS],
     pub net: i64,
+    pub card: i32,
+    pub settled: [i64; Book::PARTNERS],
 }
 
 // A line of the table of currencies: the code's letters, K and k of the rate K / 10^k, and the currency's own scale.

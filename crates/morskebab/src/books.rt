@@ -13,8 +13,9 @@ use flat::given_book;
 use flat::given_currency;
 ghost use mathlib.Core.Path.{_≡_};
 ghost use Rattle.book.specs.Moves.{openSaid, postSaid, refundSaid, paidOf, takenOf, totalsSaid};
+ghost use Rattle.book.specs.Cards.{cardSaid};
 ghost use Rattle.flat.specs.Given.{currencyFrom, amountFrom, bookFrom};
-ghost use Rattle.flat.specs.Books.{openedOf, movedOf, runningOf};
+ghost use Rattle.flat.specs.Books.{openedOf, movedOf, cardedOf, runningOf};
 
 // A book with these weights, as many partners as there are, and a net total of 0: refusals 4, 9.
 #[no_mangle]
@@ -38,6 +39,15 @@ pub extern "C" fn mkb_refund(book: MkbBook, a: MkbAmount) -> MkbMoved
     ensures { λ r. ⌜ r ≡ movedOf takenOf book (refundSaid (bookFrom book) (amountFrom a)) ⌝ }
 {
     flat_moved(book, given_book(book).refund(given_amount(a)))
+}
+
+// The book on its next card, with these weights for the same count: the running totals are settled, the net total is 0, nothing is paid; refused,
+// the given book: refusals 3, 4, 9, 10.
+#[no_mangle]
+pub extern "C" fn mkb_card(book: MkbBook, weights: &[u32]) -> MkbMoved
+    ensures { λ r. ⌜ r ≡ cardedOf book (cardSaid (bookFrom book) (now (weights .entry))) ⌝ }
+{
+    flat_moved(book, given_book(book).card(weights))
 }
 
 // Each partner's running total at the book's net total: refusals 3, 4, 9, 10.

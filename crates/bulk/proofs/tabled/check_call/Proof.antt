@@ -43,6 +43,9 @@ returns-3 c =
 add-if5 : tie.Need-add-if5
 add-if5 c = search needs
 
+add-if5-2 : tie.Need-add-if5-2
+add-if5-2 c = search needs
+
 number-requires-4 : tie.Need-number-requires-4
 number-requires-4 c κs = search needs
 
@@ -51,7 +54,7 @@ unfolding numberSaid leftSaid
 returns-4 c =
     let a = c .before .before .before .before .before .args in
     c .number4 .ensures
-    ∙ sym (simp (c .before .before .if3 .left, le-ltb largest (a .m) (c .before .before .before .before .if1 .left), c .before .before .before .if2 .left, lt-ltb largest (a .net + a .m) (c .before .if5 .taken)))
+    ∙ sym (simp (c .before .before .if3 .left, le-ltb largest (a .m) (c .before .before .before .before .if1 .left), c .before .before .before .if2 .left, lt-ltb largest (a .settled + (a .net + a .m)) (c .before .if5 .taken)))
 
 returns-5 : tie.Need-returns-5
 unfolding numberSaid leftSaid
@@ -63,7 +66,7 @@ returns-6 : tie.Need-returns-6
 unfolding numberSaid leftSaid
 returns-6 c =
     let a = c .before .before .before .before .args in
-    sym (simp (c .before .if3 .left, le-ltb largest (a .m) (c .before .before .before .if1 .left), c .before .before .if2 .left, le-ltb largest (a .net + a .m) (c .if5 .left)))
+    sym (simp (c .before .if3 .left, le-ltb largest (a .m) (c .before .before .before .if1 .left), c .before .before .if2 .left, le-ltb largest (a .settled + (a .net + a .m)) (c .if5 .left)))
 
 pub check-call-spec : {M : Type 1} → statement M
 check-call-spec =
@@ -76,6 +79,7 @@ check-call-spec =
     number-requires-3
     returns-3
     add-if5
+    add-if5-2
     number-requires-4
     returns-4
     returns-5

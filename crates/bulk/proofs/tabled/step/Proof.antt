@@ -52,7 +52,7 @@ returns c =
     let k = c .before .before .before .before .before in
     let st = k .before .before .before .before .before .before in
     let a = st .args in
-    step-refused (a .weights) (a .refund) (a .coefficient) (a .j) (a .net) (k .before .before .magnitude .result) (k .check-call .result)
+    step-refused (a .settled) (a .weights) (a .refund) (a .coefficient) (a .j) (a .net) (k .before .before .magnitude .result) (k .check-call .result)
     (k .before .is-negative .result) (a .payouts .now) (a .numbers .now) (a .held .now) _ (same-sign (k .before)) (same-m (k .before .before))
     (k .check-call .ensures) (st .pre .1 .1 .0 .1) (c .before .before .before .before .if1 .taken) (c .before .before .write .ensures)
 
@@ -62,7 +62,7 @@ refunds : (c : tie.Then2)
 refunds c =
     let k = c .before .before in
     let a = k .before .before .before .before .before .before .args in
-    left-refunds (a .refund) (k .before .is-negative .result) (k .before .before .magnitude .result) (a .net)
+    left-refunds (a .settled) (a .refund) (k .before .is-negative .result) (k .before .before .magnitude .result) (a .net)
     (sym (k .check-call .ensures) ∙ c .before .if1 .left) (c .if2 .taken) .1
 
 sub-next : tie.Need-sub-next
@@ -91,18 +91,19 @@ returns-2 c =
     let k = t .before .before .before in
     let s = k .before .before .before .before .before .before in
     let a = s .args in
-    step-refunded (a .weights) (a .refund) (a .coefficient) (a .j) (a .net) (k .before .before .magnitude .result) (k .check-call .result)
+    step-refunded (a .settled) (a .weights) (a .refund) (a .coefficient) (a .j) (a .net) (k .before .before .magnitude .result) (k .check-call .result)
     (k .before .is-negative .result) (a .payouts .now) (a .numbers .now) (a .held .now) _ (same-sign (k .before)) (same-m (k .before .before))
     (k .check-call .ensures) (s .pre .1 .1 .0 .1) (t .before .before .if1 .left) (t .totals-by .result) (t .before .if2 .taken) (t .totals-by .ensures)
     (c .before .before .pay .ensures)
 
 -- an accepted posting stays within L
 posts : (c : tie.Else2)
-    → c .before .before .before .before .before .before .before .before .args .net + c .before .before .before .before .magnitude .result ≤ largest
+    → c .before .before .before .before .before .before .before .before .args .settled
+    + (c .before .before .before .before .before .before .before .before .args .net + c .before .before .before .before .magnitude .result) ≤ largest
 posts c =
     let k = c .before .before in
     let a = k .before .before .before .before .before .before .args in
-    left-posts (a .refund) (k .before .is-negative .result) (k .before .before .magnitude .result) (a .net)
+    left-posts (a .settled) (a .refund) (k .before .is-negative .result) (k .before .before .magnitude .result) (a .net)
     (sym (k .check-call .ensures) ∙ c .before .if1 .left) (c .if2 .left) .1
 
 add-next : tie.Need-add-next
@@ -110,7 +111,7 @@ add-next c = omega (arith, posts c)
 
 totals-by-requires-2 : tie.Need-totals-by-requires-2
 totals-by-requires-2 c κs =
-    let s = c .before .before .before .before .before .before .before .before in (s .pre .0, (s .pre .1 .0, posts c))
+    let s = c .before .before .before .before .before .before .before .before in (s .pre .0, (s .pre .1 .0, omega (arith, posts c)))
 
 pay-requires-2 : tie.Need-pay-requires-2
 pay-requires-2 c κs =
@@ -131,7 +132,7 @@ returns-3 c =
     let k = t .before .before .before in
     let s = k .before .before .before .before .before .before in
     let a = s .args in
-    step-posted (a .weights) (a .refund) (a .coefficient) (a .j) (a .net) (k .before .before .magnitude .result) (k .check-call .result)
+    step-posted (a .settled) (a .weights) (a .refund) (a .coefficient) (a .j) (a .net) (k .before .before .magnitude .result) (k .check-call .result)
     (k .before .is-negative .result) (a .payouts .now) (a .numbers .now) (a .held .now) _ (same-sign (k .before)) (same-m (k .before .before))
     (k .check-call .ensures) (s .pre .1 .1 .0 .1) (t .before .before .if1 .left) (t .totals-by2 .result) (t .before .if2 .left) (t .totals-by2 .ensures)
     (c .before .before .pay2 .ensures)
