@@ -8,7 +8,7 @@ use native.Mathlib.Omega.{arith}
 use Rattle.refusal.specs.Number.{numberOf}
 use Rattle.refusal.specs.Rows.{Said, gives, refuses, Row, row, firstRow}
 use Rattle.refusal.specs.declared.Refusal.{Refusal}
-use Rattle.refusal.specs.declared.Refusal.the-variants.{Mode, Scale, Magnitude, Unknown, Differ, Rate, Date, Days, Weights, Negative, Room, Refund, Limit, NoNet, NoNumber}
+use Rattle.refusal.specs.declared.Refusal.the-variants.{Mode, Scale, Magnitude, Unknown, Differ, Rate, Date, Days, Weights, Negative, Room, Refund, Limit, Malformed, NoNet, NoNumber}
 use Rattle.flat.specs.Answers.{refusalOf}
 
 never-nought : (r : Refusal) → numberOf r ≡ 0 → ⊥
@@ -25,6 +25,7 @@ never-nought Negative e = omega arith
 never-nought Room e = omega arith
 never-nought Refund e = omega arith
 never-nought Limit e = omega arith
+never-nought Malformed e = omega arith
 never-nought NoNet e = omega arith
 never-nought NoNumber e = omega arith
 

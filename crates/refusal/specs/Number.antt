@@ -6,7 +6,7 @@ use Rattle.refusal.specs.declared.Checked.the-variants.{Passed, Refused}
 use Rattle.refusal.specs.declared.Blamed.{Blamed}
 use Rattle.refusal.specs.declared.Blamed.the-variants.{First, Second}
 use Rattle.refusal.specs.declared.Refusal.{Refusal}
-use Rattle.refusal.specs.declared.Refusal.the-variants.{Mode, Scale, Magnitude, Unknown, Differ, Rate, Date, Days, Weights, Negative, Room, Refund, Limit, NoNet, NoNumber}
+use Rattle.refusal.specs.declared.Refusal.the-variants.{Mode, Scale, Magnitude, Unknown, Differ, Rate, Date, Days, Weights, Negative, Room, Refund, Limit, Malformed, NoNet, NoNumber}
 
 -- "which of the two dates it blames": the first is 1, the second 2
 abbrev pub placeOf : Blamed → ℕ
@@ -27,6 +27,7 @@ numberOf Negative = 10
 numberOf Room = 11
 numberOf Refund = 12
 numberOf Limit = 13
+numberOf Malformed = 14
 numberOf NoNet = 15
 numberOf NoNumber = 16
 
@@ -45,6 +46,7 @@ blamedOf Negative = 0
 blamedOf Room = 0
 blamedOf Refund = 0
 blamedOf Limit = 0
+blamedOf Malformed = 0
 blamedOf NoNet = 0
 blamedOf NoNumber = 0
 

@@ -37,6 +37,8 @@ pub enum Refusal {
     Refund,
     // 13: the result, the euro step or the new net total is over L
     Limit,
+    // 14: a text isn't of its form
+    Malformed,
     // 15: no net has the gross
     NoNet,
     // 16: a double is no number or infinite
@@ -83,6 +85,7 @@ impl Refusal {
             Refusal::Room => 11,
             Refusal::Refund => 12,
             Refusal::Limit => 13,
+            Refusal::Malformed => 14,
             Refusal::NoNet => 15,
             Refusal::NoNumber => 16,
         }
@@ -106,6 +109,7 @@ impl Refusal {
             Refusal::Room => 0,
             Refusal::Refund => 0,
             Refusal::Limit => 0,
+            Refusal::Malformed => 0,
             Refusal::NoNet => 0,
             Refusal::NoNumber => 0,
         }
