@@ -1,9 +1,9 @@
-mod Spans
-mod Scans
-mod Fills
-mod Decimal
+pub mod Spans
+pub mod Scans
+pub mod Fills
+pub mod Decimal
 pub mod FirstWord
 pub mod Ranges
 pub mod NumberTexts
 pub mod ReadBack
-pub mod Places
+pub mod Puts

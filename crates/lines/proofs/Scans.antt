@@ -78,7 +78,7 @@ module _ (sign : Bool) (line : List ℕ) (from to : ℕ) (end : to ≤ length li
   done sum h e = rw (e, slice-empty to line) (ap (Whole sign) (omega arith))
 
 -- the bytes of a word
-part : {A : Type 0} (from to : ℕ) (bs : List A) → take (to - from) (drop from bs) ≡ slice from to bs
+pub part : {A : Type 0} (from to : ℕ) (bs : List A) → take (to - from) (drop from bs) ≡ slice from to bs
 part zero to bs = rw (sub-zero to)
 part (suc from) zero bs = rw (zero-sub (suc from))
 part (suc from) (suc to) [] = take-nil (suc to - suc from)

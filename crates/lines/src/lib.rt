@@ -21,6 +21,7 @@ pub use numbers::as_u16;
 pub use numbers::as_u32;
 pub use numbers::as_unsigned;
 pub use numbers::read_number;
+pub use texts::places;
 pub use texts::put_bytes;
 pub use texts::put_number;
 pub use words::line_end;

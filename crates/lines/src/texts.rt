@@ -7,7 +7,7 @@ ghost use lib.ListN.{length};
 ghost use Rattle.lines.specs.Texts.{decimal, textOf, putAt, placeBehind};
 
 // How many decimal digits a number has.
-fn places(m: u64) -> usize
+pub fn places(m: u64) -> usize
     ensures { λ r. ⌜ r ≡ length (decimal 20 m) ⌝ }
 {
     let mut count = 1;

@@ -1,0 +1,13 @@
+pub mod Digits
+pub mod Spelled
+mod Parts
+pub mod Accepted
+mod Numbers
+mod Placed
+pub mod OneText
+pub mod Exactly
+pub mod RoundTrip
+pub mod ByCode
+pub mod Unique
+pub mod ExactlyWhen
+pub mod Lines

@@ -1,0 +1,4 @@
+pub mod Grammar
+pub mod Read
+pub mod Written
+pub mod Codes
