@@ -1,0 +1,19 @@
+mod Pasting
+pub mod ReadBack
+mod Putting
+pub mod Words
+mod Any
+pub mod Totals
+pub mod Fields
+mod Behind
+mod Walk
+mod Run
+pub mod Accepted
+mod Answered
+mod Held
+mod Ending
+pub mod Exactly
+pub mod ReadWritten
+pub mod Unique
+pub mod ExactlyWhen
+pub mod Lines

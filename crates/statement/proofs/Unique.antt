@@ -1,0 +1,41 @@
+-- Two answers that a promise allows are equal, and so are the two buffers afterwards. Assumes nothing.
+use mathlib.Core.Path.{_≡_, sym, _∙_, ap, ap₂}
+use mathlib.Core.List.{List}
+use Prim.Native.Nat.{ℕ}
+use native.Mathlib.Omega.{arith}
+use lib.IntN.{ℤ}
+use lib.ListN.{length}
+use Rattle.refusal.specs.declared.Checked.{Checked}
+use Rattle.refusal.specs.Rows.{meansOutcome}
+use Rattle.refusal.proofs.OneToOne.{same-refusal, same-outcome}
+use Rattle.currency.specs.declared.Currency.{Currency}
+use Rattle.statement.specs.declared.Written.{Written}
+use Rattle.statement.specs.declared.Summary.{Summary}
+use Rattle.statement.specs.declared.Found.{Found}
+use Rattle.statement.specs.declared.Found.the-variants.{Value, Refused}
+use Rattle.statement.specs.Files.{fileBytes}
+use Rattle.statement.specs.Writing.{payout, writeSaid, endIn, bufferAfter}
+use Rattle.statement.specs.Reading.{meansFound, readSaid}
+
+module _ (currency : Currency) (places : List ℕ) (coefficients : List ℤ) (out : List ℕ) (start : ℕ) where
+  -- what the promise of `write` says of an answer and the buffer afterwards
+  abbrev pub Promised : Written → List ℕ → Type 0
+  Promised r after =
+      (meansOutcome (r .outcome) (r .end) ≡ writeSaid currency places coefficients (length out) start)
+      × (r .end ≡ endIn (writeSaid currency places coefficients (length out) start))
+      × (after ≡ bufferAfter (writeSaid currency places coefficients (length out) start) start (fileBytes (payout currency places coefficients) (length places)) out)
+
+  pub one-write : (r s : Written) (o p : List ℕ) → Promised r o → Promised s p → (r ≡ s) × (o ≡ p)
+  one-write r s o p first second =
+      let outcome = same-outcome (r .outcome) (s .outcome) (r .end) (s .end) (first .0 ∙ sym (second .0)) in
+      let end = first .1 ∙ sym (second .1) in
+      (ap₂ (λ (k : Checked) (n : ℕ). record { outcome = k; end = n }) outcome end, first .2 ∙ sym (second .2))
+
+same-found : (r s : Found) → meansFound r ≡ meansFound s → r ≡ s
+same-found (Value a) (Value b) e = let same : a ≡ b = cc in ap Value same
+same-found (Value a) (Refused r) e = let z : _≡_ {A = ℕ} 0 1 = cc in absurd (omega arith)
+same-found (Refused r) (Value b) e = let z : _≡_ {A = ℕ} 0 1 = cc in absurd (omega arith)
+same-found (Refused r) (Refused s) e = ap Refused (same-refusal {A = Summary} r s e)
+
+pub one-check : (bytes : List ℕ) (r s : Found) → meansFound r ≡ readSaid bytes → meansFound s ≡ readSaid bytes → r ≡ s
+one-check bytes r s first second = same-found r s (first ∙ sym second)

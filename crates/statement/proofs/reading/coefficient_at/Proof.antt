@@ -1,0 +1,24 @@
+-- The coefficient is what the word at its place holds. Assumes nothing.
+use mathlib.Core.Path.{_≡_, refl, sym, _∙_, ap, ap₂}
+use native.Mathlib.Omega.{arith}
+use Rattle.whole.proofs.Laws.{read-back}
+use Rattle.statement.specs.Bytes.{fromWord}
+use borrow.Author.Needs.{needs}
+use Rattle.statement.proofs.reading.coefficient_at.Statement.{statement}
+use Rattle.statement.proofs.reading.coefficient_at.Tie as tie
+
+add-number-at : tie.Need-add-number-at
+add-number-at c = search needs
+
+number-at-requires : tie.Need-number-at-requires
+number-at-requires c κs = search needs
+
+from-word-requires : tie.Need-from-word-requires
+from-word-requires c κs = search needs
+
+returns : tie.Need-returns
+returns c = read-back (c .from-word .result) (c .from-word .ok) ∙ c .from-word .ensures ∙ ap fromWord (c .before .number-at .ensures)
+
+pub coefficient-at-spec : {M : Type 1} → statement M
+coefficient-at-spec =
+    tie.close (tie.spec add-number-at number-at-requires from-word-requires returns)

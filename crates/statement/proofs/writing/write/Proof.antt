@@ -1,0 +1,49 @@
+-- A refused check leaves the buffer as it stood; what passed has room for its file. Assumes nothing.
+use mathlib.Core.Path.{_≡_, refl, sym, _∙_, ap, ap₂}
+use native.Mathlib.Omega.{arith}
+use Rattle.statement.proofs.Answered.{answers-refused, answers-written, writable}
+use borrow.Author.Needs.{needs}
+use Rattle.statement.proofs.writing.write.Statement.{statement}
+use Rattle.statement.proofs.writing.write.Tie as tie
+
+check-requires : tie.Need-check-requires
+check-requires c κs = search needs
+
+enum-known-refusal : tie.Need-enum-known-refusal
+enum-known-refusal c = search needs
+
+enum-told : tie.Need-enum-told
+enum-told c = search needs
+
+put-file-requires : tie.Need-put-file-requires
+put-file-requires c κs =
+    let a = c .before .before .before .before .before .before .args in
+    writable (a .currency) (a .places .now) (a .coefficients .now) (a .out .now) (a .start) (sym (c .before .before .before .check .ensures) ∙ c .before .enum-told .given .1)
+
+returns : tie.Need-returns
+returns c =
+    let a = c .before .before .before .before .before .before .args in
+    answers-refused (a .currency) (a .places .now) (a .coefficients .now) (a .out .now) (a .start) (c .before .refusal .given .0 .0)
+    (sym (c .before .before .before .check .ensures) ∙ c .before .refusal .given .1)
+
+same-length : tie.Need-same-length
+same-length c = search needs
+
+returns-2 : tie.Need-returns-2
+returns-2 c =
+    let a = c .before .before .before .before .before .before .before .before .before .args in
+    let put = c .before .before .put-file in
+    answers-written (a .currency) (a .places .now) (a .coefficients .now) (a .out .now) (a .start) (put .result) (put .last .1 .1 .1 .0)
+    (sym (c .before .before .before .before .before .before .check .ensures) ∙ c .before .before .before .before .enum-told .given .1) (put .ensures .0) (put .ensures .1)
+
+pub write-spec : {M : Type 1} → statement M
+write-spec =
+    tie.close
+    (tie.spec
+    check-requires
+    enum-known-refusal
+    enum-told
+    put-file-requires
+    returns
+    same-length
+    returns-2)

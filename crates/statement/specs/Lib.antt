@@ -1,0 +1,5 @@
+pub mod Bytes
+pub mod Files
+pub mod Writing
+pub mod Reading
+pub mod Parts
