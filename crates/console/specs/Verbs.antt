@@ -24,6 +24,8 @@ use Rattle.console.specs.declared.Verb.the-variants.{
   Post,
   Refund,
   Totals,
+  Card,
+  Settled,
   Unknown,
 }
 
@@ -33,12 +35,13 @@ sameBytes [] (b ∷ bs) = false
 sameBytes (a ∷ rest) [] = false
 sameBytes (a ∷ rest) (b ∷ bs) = eqb a b && sameBytes rest bs
 
--- post, open
+-- post, open, card
 abbrev pub ofFour : List ℕ → Verb
 ofFour word =
     cond (sameBytes word (112 ∷ 111 ∷ 115 ∷ 116 ∷ [])) Post
     (cond (sameBytes word (111 ∷ 112 ∷ 101 ∷ 110 ∷ [])) Open
-    Unknown)
+    (cond (sameBytes word (99 ∷ 97 ∷ 114 ∷ 100 ∷ [])) Card
+    Unknown))
 
 -- round, order, share
 abbrev pub ofFive : List ℕ → Verb
@@ -56,14 +59,15 @@ ofSix word =
     (cond (sameBytes word (116 ∷ 111 ∷ 116 ∷ 97 ∷ 108 ∷ 115 ∷ [])) Totals
     Unknown))
 
--- rescale, convert, tax-net, net-for
+-- rescale, convert, tax-net, net-for, settled
 abbrev pub ofSeven : List ℕ → Verb
 ofSeven word =
     cond (sameBytes word (114 ∷ 101 ∷ 115 ∷ 99 ∷ 97 ∷ 108 ∷ 101 ∷ [])) Rescale
     (cond (sameBytes word (99 ∷ 111 ∷ 110 ∷ 118 ∷ 101 ∷ 114 ∷ 116 ∷ [])) Convert
     (cond (sameBytes word (116 ∷ 97 ∷ 120 ∷ 45 ∷ 110 ∷ 101 ∷ 116 ∷ [])) TaxNet
     (cond (sameBytes word (110 ∷ 101 ∷ 116 ∷ 45 ∷ 102 ∷ 111 ∷ 114 ∷ [])) NetFor
-    Unknown)))
+    (cond (sameBytes word (115 ∷ 101 ∷ 116 ∷ 116 ∷ 108 ∷ 101 ∷ 100 ∷ [])) Settled
+    Unknown))))
 
 -- interest, vouchers, compound
 abbrev pub ofEight : List ℕ → Verb
@@ -90,7 +94,8 @@ verbOf word =
     (cond (eqb (length word) 8) (ofEight word)
     (ofOthers word)))))
 
--- "`share` and `open` take any count of weights", and so do vouchers; "`round MODE N D` stays, and is N x 1 / D"; `convert` "without STEP it is 3"
+-- "`share` and `open` take any count of weights", and so do vouchers and a card; "`round MODE N D` stays, and is N x 1 / D"; `convert` "without STEP
+-- it is 3"
 abbrev pub takesOf : Verb → (count : ℕ) → Bool
 takesOf Round count = eqb count 3 || eqb count 4
 takesOf Sum count = eqb count 6
@@ -109,4 +114,6 @@ takesOf Open count = leb 1 count
 takesOf Post count = eqb count 3
 takesOf Refund count = eqb count 3
 takesOf Totals count = eqb count 0
+takesOf Card count = true
+takesOf Settled count = eqb count 0
 takesOf Unknown count = false

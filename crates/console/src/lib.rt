@@ -49,6 +49,8 @@ pub enum Verb {
     Post,
     Refund,
     Totals,
+    Card,
+    Settled,
     Unknown,
 }
 

@@ -15,6 +15,9 @@ fn of_four(word: &[u8]) -> Verb
     if same(word, b"open") {
         return Verb::Open;
     }
+    if same(word, b"card") {
+        return Verb::Card;
+    }
     Verb::Unknown
 }
 
@@ -62,6 +65,9 @@ fn of_seven(word: &[u8]) -> Verb
     }
     if same(word, b"net-for") {
         return Verb::NetFor;
+    }
+    if same(word, b"settled") {
+        return Verb::Settled;
     }
     Verb::Unknown
 }
@@ -117,8 +123,8 @@ fn is_either(count: usize, few: usize, more: usize) -> bool
     count == more
 }
 
-// Whether a verb takes so many numbers: a quotient's second factor and a conversion's decimals may be left out, and a share, vouchers and an
-// opening take any count of weights.
+// Whether a verb takes so many numbers: a quotient's second factor and a conversion's decimals may be left out, and a share, vouchers, an
+// opening and a card take any count of weights.
 pub fn takes(verb: Verb, count: usize) -> bool
     ensures { λ r. ⌜ r ≡ takesOf verb count ⌝ }
 {
@@ -140,6 +146,8 @@ pub fn takes(verb: Verb, count: usize) -> bool
         Verb::Post => count == 3,
         Verb::Refund => count == 3,
         Verb::Totals => count == 0,
+        Verb::Card => true,
+        Verb::Settled => count == 0,
         Verb::Unknown => false,
     }
 }

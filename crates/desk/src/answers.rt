@@ -88,16 +88,22 @@ pub(crate) fn put_places(out: &mut [u8], at: usize, numbers: [u64; Book::PARTNER
     behind
 }
 
-// The first of the shares, as many as are asked for.
-pub(crate) fn put_shares(out: &mut [u8], at: usize, shares: &[i64], count: usize) -> usize {
-    let mut behind = put_bytes(out, at, b"=");
+// The first of the numbers, as many as are asked for.
+pub(crate) fn put_list(out: &mut [u8], at: usize, numbers: &[i64], count: usize) -> usize {
+    let mut behind = at;
     let mut i = 0;
     while i < count {
-        if shares.len() <= i {
+        if numbers.len() <= i {
             return behind;
         }
-        behind = put_whole(out, behind, shares[i]);
+        behind = put_whole(out, behind, numbers[i]);
         i += 1;
     }
     behind
+}
+
+// The first of the shares.
+pub(crate) fn put_shares(out: &mut [u8], at: usize, shares: &[i64], count: usize) -> usize {
+    let behind = put_bytes(out, at, b"=");
+    put_list(out, behind, shares, count)
 }

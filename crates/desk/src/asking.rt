@@ -3,8 +3,10 @@ use crate::answers::Reply;
 use crate::answers::put_reply;
 use crate::answers::put_unknown;
 use crate::books::Answered;
+use crate::books::card;
 use crate::books::open;
 use crate::books::put_moved;
+use crate::books::settled_of;
 use crate::books::totals_of;
 use crate::calls::by_two;
 use crate::calls::convert_to;
@@ -64,6 +66,11 @@ fn ask(
         Verb::Post => put_moved(out, at, book.post(amount)),
         Verb::Refund => put_moved(out, at, book.refund(amount)),
         Verb::Totals => put_moved(out, at, totals_of(book)),
+        Verb::Card => card(book, signs, values, count, out, at),
+        Verb::Settled => Answered {
+            at: settled_of(book, out, at),
+            book,
+        },
         Verb::Share => Answered {
             at: share_of(amount, signs, values, count, out, at),
             book,

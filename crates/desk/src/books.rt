@@ -1,9 +1,11 @@
 // The calls that take the current book or leave another one.
+use crate::answers::put_list;
 use crate::answers::put_places;
 use crate::answers::put_refused;
 use crate::answers::put_whole;
 use book::Book;
 use book::Moved;
+use console::put_named;
 use currency::Currency;
 use intake::read_weights;
 use intake::u8_at;
@@ -26,6 +28,8 @@ pub(crate) fn no_book() -> Book {
         count: 0,
         weights: [0; Book::PARTNERS],
         net: 0,
+        card: 0,
+        settled: [0; Book::PARTNERS],
     }
 }
 
@@ -46,6 +50,39 @@ pub(crate) fn open(
         Checked::Passed => put_bytes(out, at, b"= open"),
     };
     Answered { at: behind, book }
+}
+
+// The current book on a new card.
+pub(crate) fn card(
+    book: Book,
+    signs: &[bool],
+    values: &[u64],
+    count: usize,
+    out: &mut [u8],
+    at: usize,
+) -> Answered {
+    let mut weights = [0u32; WEIGHTS];
+    let partners = read_weights(signs, values, 0, count, &mut weights);
+    let moved = book.card(&weights[0..partners]);
+    let book = moved.book;
+    let outcome = moved.outcome;
+    let behind = match outcome {
+        Checked::Refused(refusal) => put_refused(out, at, refusal),
+        Checked::Passed => put_named(out, at, b"= card ", book.card as u64),
+    };
+    Answered { at: behind, book }
+}
+
+// The card's number and the settled totals of the current book.
+pub(crate) fn settled_of(book: Book, out: &mut [u8], at: usize) -> usize {
+    match book.check(false, false) {
+        Checked::Refused(refusal) => put_refused(out, at, refusal),
+        Checked::Passed => {
+            let settled = book.settled;
+            let behind = put_named(out, at, b"= ", book.card as u64);
+            put_list(out, behind, &settled, Book::PARTNERS)
+        },
+    }
 }
 
 // The book as it is, with its running totals in the payouts' place: they are answered the same way.

@@ -41,6 +41,8 @@ pub(crate) fn no_account(opening: Opening) -> Account {
         count: 0,
         weights: [0; Book::PARTNERS],
         net: 0,
+        card: 0,
+        settled: [0; Book::PARTNERS],
     };
     Account {
         opening,

@@ -64,6 +64,12 @@ enum-told-17 c = search needs
 enum-told-18 : tie.Need-enum-told-18
 enum-told-18 c = search needs
 
+enum-told-19 : tie.Need-enum-told-19
+enum-told-19 c = search needs
+
+enum-told-20 : tie.Need-enum-told-20
+enum-told-20 c = search needs
+
 returns : tie.Need-returns
 returns c = c .is-either .ensures ∙ sym (rw (c .before .enum-told .given .1))
 
@@ -118,6 +124,12 @@ returns-17 c = rw (c .enum-told17 .given .1)
 returns-18 : tie.Need-returns-18
 returns-18 c = rw (c .enum-told18 .given .1)
 
+returns-19 : tie.Need-returns-19
+returns-19 c = rw (c .enum-told19 .given .1)
+
+returns-20 : tie.Need-returns-20
+returns-20 c = rw (c .enum-told20 .given .1)
+
 pub takes-spec : {M : Type 1} → statement M
 takes-spec =
     tie.close
@@ -142,6 +154,8 @@ takes-spec =
     enum-told-16
     enum-told-17
     enum-told-18
+    enum-told-19
+    enum-told-20
     returns
     returns-2
     returns-3
@@ -159,4 +173,6 @@ takes-spec =
     returns-15
     returns-16
     returns-17
-    returns-18)
+    returns-18
+    returns-19
+    returns-20)

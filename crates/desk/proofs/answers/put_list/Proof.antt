@@ -3,20 +3,14 @@ use mathlib.Core.Path.{_≡_}
 use Prim.Native.Nat.{_-_}
 use lib.ListN.{length}
 use borrow.Author.Needs.{needs}
-use Rattle.desk.proofs.answers.put_shares.Statement.{statement}
-use Rattle.desk.proofs.answers.put_shares.Tie as tie
+use Rattle.desk.proofs.answers.put_list.Statement.{statement}
+use Rattle.desk.proofs.answers.put_list.Tie as tie
 
 abbrev Inv-loop : tie.InvT-loop
-Inv-loop out₀ at shares count behind₀ i₀ out behind i = length out ≡ length out₀
+Inv-loop out₀ at numbers count behind₀ i₀ out behind i = length out ≡ length out₀
 
 abbrev μ-loop : tie.MeasureT-loop
-μ-loop out₀ at shares count behind₀ i₀ out behind i = count - i
-
-slice-aggregate-put-bytes : tie.Need-slice-aggregate-put-bytes Inv-loop μ-loop
-slice-aggregate-put-bytes c = search needs
-
-put-bytes-requires : tie.Need-put-bytes-requires Inv-loop μ-loop
-put-bytes-requires c κs = search needs
+μ-loop out₀ at numbers count behind₀ i₀ out behind i = count - i
 
 loop-holds : tie.Need-loop-holds Inv-loop μ-loop
 loop-holds c = search needs
@@ -51,14 +45,12 @@ same-length-2 c = search needs
 returns-2 : tie.Need-returns-2 Inv-loop μ-loop
 returns-2 c = search needs
 
-pub put-shares-spec : {M : Type 1} → statement M
-put-shares-spec =
+pub put-list-spec : {M : Type 1} → statement M
+put-list-spec =
     tie.close
     (tie.spec
     Inv-loop
     μ-loop
-    slice-aggregate-put-bytes
-    put-bytes-requires
     loop-holds
     same-length
     returns
