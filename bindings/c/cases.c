@@ -318,6 +318,7 @@ int main(void)
     interest();
     tables();
     tax();
+    doubles();
     shares();
     vouchers();
     opening();

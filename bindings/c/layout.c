@@ -14,6 +14,9 @@ SIZE(mkb_amount_answer, 24); AT(mkb_amount_answer, blamed, 1); AT(mkb_amount_ans
 SIZE(mkb_order_answer, 3); AT(mkb_order_answer, blamed, 1); AT(mkb_order_answer, order, 2);
 SIZE(mkb_days, 8); AT(mkb_days, blamed, 1); AT(mkb_days, days, 4);
 SIZE(mkb_split, 56); AT(mkb_split, blamed, 1); AT(mkb_split, net, 8); AT(mkb_split, tax, 24); AT(mkb_split, gross, 40);
+SIZE(mkb_columns, 16); AT(mkb_columns, net, 0); AT(mkb_columns, tax, 8);
+SIZE(mkb_row_answer, 40); AT(mkb_row_answer, blamed, 1); AT(mkb_row_answer, net, 8); AT(mkb_row_answer, tax, 24);
+SIZE(mkb_double, 16); AT(mkb_double, blamed, 1); AT(mkb_double, value, 8);
 SIZE(mkb_opened, 88); AT(mkb_opened, blamed, 1); AT(mkb_opened, book, 8);
 SIZE(mkb_moved, 216); AT(mkb_moved, blamed, 1); AT(mkb_moved, book, 8); AT(mkb_moved, payouts, 88);
 SIZE(mkb_totals, 136); AT(mkb_totals, blamed, 1); AT(mkb_totals, totals, 8);

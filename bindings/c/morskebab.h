@@ -29,7 +29,7 @@ extern "C" {
 enum mkb_refusal {
     MKB_ACCEPTED = 0,
     MKB_MODE = 1,      /* the mode isn't 0 to 6 */
-    MKB_SCALE = 2,     /* a scale is over 6, or (conversions, the book) isn't the known currency's own digits, or a euro step's decimals aren't 3 to 6 */
+    MKB_SCALE = 2,     /* a scale is over 6, or (conversions, the book) isn't the known currency's own digits, a euro step's decimals aren't 3 to 6, or (doubles) is over 3 */
     MKB_MAGNITUDE = 3, /* a given coefficient or net total is over L, or a factor's magnitude is over 10^18 */
     MKB_UNKNOWN = 4,   /* a currency number is over 20 */
     MKB_DIFFER = 5,    /* two currencies that must agree differ */
@@ -41,7 +41,8 @@ enum mkb_refusal {
     MKB_ROOM = 11,     /* the lent output is too short */
     MKB_REFUND = 12,   /* a refund is greater than the net total */
     MKB_LIMIT = 13,    /* the result, the euro step, a row of a table or the new net total is over L, or a plain quotient over 10^18 */
-    MKB_NO_NET = 15    /* no net has the gross */
+    MKB_NO_NET = 15,   /* no net has the gross */
+    MKB_NO_NUMBER = 16 /* a double is no number or infinite */
 };
 
 /* away from zero, toward zero, toward the greater, toward the lesser; to the nearest, a half away from zero, toward zero, to the even */
@@ -103,6 +104,21 @@ typedef struct {
     uint8_t refusal, blamed;
     mkb_amount net, tax, gross;
 } mkb_split;
+
+/* a row of a spreadsheet */
+typedef struct {
+    double net, tax;
+} mkb_columns;
+
+typedef struct {
+    uint8_t refusal, blamed;
+    mkb_amount net, tax;
+} mkb_row_answer;
+
+typedef struct {
+    uint8_t refusal, blamed;
+    double value;
+} mkb_double;
 
 typedef struct {
     uint8_t refusal, blamed;
@@ -168,6 +184,12 @@ mkb_split mkb_tax_from_gross(mkb_amount gross, int64_t rate, int64_t mode);
 
 /* the price of the only net that has this gross by mkb_tax_from_net: refusals 1, 2, 3, 4, 6, and 15 where no net has it */
 mkb_split mkb_net_for(mkb_amount gross, int64_t rate, int64_t mode);
+
+/* both columns as amounts of the currency at the scale, 0 to 3, from the exact worth of the doubles, rounded by the mode: refusals 1, 2, 4, 13, and 16
+ * where a column is no number or infinite and no other row holds */
+mkb_row_answer mkb_row(mkb_columns row, int64_t currency, int64_t scale, int64_t mode);
+/* the coefficient as a double, divided once by 10^scale, for a scale of 0 to 3: refusals 2, 3, 4 */
+mkb_double mkb_export(mkb_amount a);
 
 /* shares by largest remainder into the first `count` places of out, the others untouched; a refusal writes nothing; 0, or 2, 3, 4, 9, 11 */
 uint8_t mkb_share(mkb_amount a, const uint32_t *weights, size_t count, int64_t *out, size_t room);

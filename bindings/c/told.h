@@ -69,4 +69,6 @@ static inline void not_moved(const char *name, mkb_moved r, int number, mkb_book
 
 /* numbers past their limits, the table of currencies, and books that are broken in each field (limits.c) */
 void limits(void);
+/* rows of doubles and exports (doubles.c) */
+void doubles(void);
 #endif

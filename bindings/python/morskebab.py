@@ -24,7 +24,7 @@ from decimal import Decimal
 from enum import IntEnum
 from typing import Any, Callable, NamedTuple
 
-from morskebab_c import PARTNERS, VERSION, CAmount, CBook, CDate, load
+from morskebab_c import PARTNERS, VERSION, CAmount, CBook, CColumns, CDate, load
 from morskebab_values import REASONS, Refused, as_list, is_a, whole
 
 __version__ = f"{VERSION // 10000}.{VERSION // 100 % 100}.{VERSION % 100}"
@@ -232,6 +232,10 @@ class Amount:
         """The price of the only net that has this gross: refusals 1, 2, 3, 4, 6, and 15 where no net has it."""
         return Split._of(_accepted(_library.mkb_net_for(self._c(), whole(c_int64, "rate", rate), whole(c_int64, "mode", mode))))
 
+    def export(self) -> float:
+        """The coefficient as a double, divided once by 10^scale, for a scale of 0 to 3: refusals 2, 3, 4."""
+        return _accepted(_library.mkb_export(self._c())).value
+
     def share(self, weights: Sequence[int]) -> tuple[int, ...]:
         """The shares' coefficients by largest remainder, one for each weight: refusals 2, 3, 4, 9."""
         lent, count = as_list(c_uint32, "weights", weights)
@@ -240,6 +244,20 @@ class Amount:
         if number:
             raise Refused(number)
         return tuple(out[:count])
+
+
+class Columns(NamedTuple):
+    """The two columns of a row."""
+
+    net: Amount
+    tax: Amount
+
+
+def take_row(net: float, tax: float, currency: int, scale: int, mode: int) -> Columns:
+    """A row of doubles as amounts at the scale, 0 to 3, from the doubles' exact worth, rounded by the mode: refusals 1, 2, 4, 13, 16."""
+    numbers = whole(c_int64, "currency", currency), whole(c_int64, "scale", scale), whole(c_int64, "mode", mode)
+    answer = _accepted(_library.mkb_row(CColumns(is_a(float, "net", net), is_a(float, "tax", tax)), *numbers))
+    return Columns(Amount._of(answer.net), Amount._of(answer.tax))
 
 
 def vouchers(count: int, weights: Sequence[int]) -> list[int]:

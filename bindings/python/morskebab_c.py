@@ -2,7 +2,7 @@
 import ctypes
 import os
 import pathlib
-from ctypes import POINTER, Structure, c_bool, c_int8, c_int32, c_int64, c_size_t, c_uint8, c_uint32, c_uint64
+from ctypes import POINTER, Structure, c_bool, c_double, c_int8, c_int32, c_int64, c_size_t, c_uint8, c_uint32, c_uint64
 
 PARTNERS = 16
 # MKB_VERSION: 10,000 x major + 100 x minor + patch
@@ -21,6 +21,10 @@ class CBook(Structure):
     _fields_ = [("currency", c_int32), ("count", c_int32), ("weights", c_uint32 * PARTNERS), ("net", c_int64)]
 
 
+class CColumns(Structure):
+    _fields_ = [("net", c_double), ("tax", c_double)]
+
+
 class CLine(Structure):
     _fields_ = [("code", c_uint8 * 3), ("places", c_uint8), ("digits", c_uint8), ("figures", c_uint64)]
 
@@ -35,6 +39,8 @@ CAmountAnswer = _answer("CAmountAnswer", ("amount", CAmount))
 COrder = _answer("COrder", ("order", c_int8))
 CDays = _answer("CDays", ("days", c_uint32))
 CSplit = _answer("CSplit", ("net", CAmount), ("tax", CAmount), ("gross", CAmount))
+CRowAnswer = _answer("CRowAnswer", ("net", CAmount), ("tax", CAmount))
+CDouble = _answer("CDouble", ("value", c_double))
 COpened = _answer("COpened", ("book", CBook))
 CMoved = _answer("CMoved", ("book", CBook), ("payouts", c_uint64 * PARTNERS))
 CTotals = _answer("CTotals", ("totals", c_uint64 * PARTNERS))
@@ -64,6 +70,8 @@ FUNCTIONS = {
     "mkb_tax_from_net": (CSplit, CAmount, c_int64, c_int64),
     "mkb_tax_from_gross": (CSplit, CAmount, c_int64, c_int64),
     "mkb_net_for": (CSplit, CAmount, c_int64, c_int64),
+    "mkb_row": (CRowAnswer, CColumns, c_int64, c_int64, c_int64),
+    "mkb_export": (CDouble, CAmount),
     "mkb_share": (c_uint8, CAmount, *_lent(c_uint32), *_lent(c_int64)),
     "mkb_vouchers": (c_uint8, c_int64, *_lent(c_uint32), *_lent(c_uint32)),
     "mkb_open": (COpened, c_int64, *_lent(c_uint32)),

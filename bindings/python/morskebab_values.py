@@ -8,7 +8,7 @@ from typing import Any
 
 REASONS = {
     1: "the mode isn't 0 to 6",
-    2: "a scale is over 6, or isn't the currency's own digits",
+    2: "a scale is over 6, or isn't the currency's own digits, or (doubles) is over 3",
     3: "a given coefficient or net total is over L, or a factor's magnitude over 10^18",
     4: "a currency number is over 20",
     5: "two currencies that must agree differ",
@@ -21,6 +21,7 @@ REASONS = {
     12: "a refund is greater than the net total",
     13: "the result, the euro step, a row of a table or the new net total is over L, or a plain quotient over 10^18",
     15: "no net has the gross",
+    16: "a double is no number or infinite",
 }
 
 

@@ -11,7 +11,7 @@ import morskebab
 from morskebab import (
     DEM, EUR, FRF, IEP, ITL, CEILING, DOWN, FLOOR, HALF_DOWN, HALF_EVEN, HALF_UP, UP, L, REASONS,
     ACTUAL_360, ACTUAL_365, THIRTY_360_AMERICAN, THIRTY_360_EUROPEAN,
-    Amount, Book, Date, Moved, Ran, Refused, Split, currency_line, day_count, plain_quotient, vouchers,
+    Amount, Book, Columns, Date, Moved, Ran, Refused, Split, currency_line, day_count, plain_quotient, take_row, vouchers,
 )
 from morskebab_c import PARTNERS, CAmount, CBook
 
@@ -222,6 +222,31 @@ def prices():
     refused(3, lambda: euros(L + 1).net_for(1000001, HALF_UP))
 
 
+def rows_of_doubles():
+    inf, none, least = float("inf"), float("nan"), 5e-324
+    same(take_row(2.675, -2.675, EUR, 2, HALF_UP), Columns(euros(267), euros(-267)))
+    same(take_row(0.125, 0.375, EUR, 2, HALF_EVEN), Columns(euros(12), euros(38)))
+    same(take_row(0.0, -0.0, EUR, 3, UP), Columns(euros(0, 3), euros(0, 3)))
+    same(take_row(least, -least, EUR, 0, UP), Columns(euros(1, 0), euros(-1, 0)))
+    same(take_row(float(L), float(-L), EUR, 0, UP), Columns(euros(L, 0), euros(-L, 0)))
+    refused(13, lambda: take_row(float(L + 1), 0.0, EUR, 0, DOWN))
+    refused(13, lambda: take_row(none, 1e300, EUR, 0, DOWN))
+    for column in (none, inf, -inf):
+        refused(16, lambda: take_row(column, 1.0, EUR, 2, UP))
+        refused(16, lambda: take_row(1.0, column, EUR, 2, UP))
+    refused(1, lambda: take_row(none, 1e300, 21, 4, 7))
+    refused(2, lambda: take_row(none, 1e300, 21, 4, UP))
+    refused(4, lambda: take_row(none, 1e300, 21, 3, UP))
+    named(TypeError, "tax", lambda: take_row(1.0, 1, EUR, 2, UP))
+    named(TypeError, "scale", lambda: take_row(1.0, 1.0, EUR, 2.0, UP))
+    for scale in range(4):
+        for coefficient in (0, 1, -1, 267, 2675, 10**9 + 7, L, -L):
+            same(euros(coefficient, scale).export(), coefficient / 10**scale)
+    refused(2, lambda: Amount(21, 4, L + 1).export())
+    refused(3, lambda: Amount(21, 3, L + 1).export())
+    refused(4, lambda: Amount(21, 3, 1).export())
+
+
 def shares():
     same(euros(100).share([1, 1, 1]), (34, 33, 33))
     same(euros(100).share([3, 3, 1]), (43, 43, 14))
@@ -323,7 +348,7 @@ def versions():
 
 
 def main():
-    for part in (modes, amounts, past_limits, texts_and_decimals, fields, lines, euro_steps, days, tables, prices, shares, handed_out, books, broken_books, processes, versions):
+    for part in (modes, amounts, past_limits, texts_and_decimals, fields, lines, euro_steps, days, tables, prices, rows_of_doubles, shares, handed_out, books, broken_books, processes, versions):
         part()
     examples = doctest.testmod(morskebab)
     assert not examples.failed

@@ -71,6 +71,27 @@ pub struct Split {
 }
 
 #[repr(C)]
+pub struct Columns {
+    pub net: f64,
+    pub tax: f64,
+}
+
+#[repr(C)]
+pub struct RowAnswer {
+    pub refusal: u8,
+    pub blamed: u8,
+    pub net: Amount,
+    pub tax: Amount,
+}
+
+#[repr(C)]
+pub struct Double {
+    pub refusal: u8,
+    pub blamed: u8,
+    pub value: f64,
+}
+
+#[repr(C)]
 pub struct Opened {
     pub refusal: u8,
     pub blamed: u8,
@@ -122,6 +143,8 @@ extern "C" {
     pub fn mkb_tax_from_net(net: Amount, rate: i64, mode: i64) -> Split;
     pub fn mkb_tax_from_gross(gross: Amount, rate: i64, mode: i64) -> Split;
     pub fn mkb_net_for(gross: Amount, rate: i64, mode: i64) -> Split;
+    pub fn mkb_row(row: Columns, currency: i64, scale: i64, mode: i64) -> RowAnswer;
+    pub fn mkb_export(a: Amount) -> Double;
     pub fn mkb_share(a: Amount, weights: *const u32, count: usize, out: *mut i64, room: usize) -> u8;
     pub fn mkb_vouchers(vouchers: i64, weights: *const u32, count: usize, out: *mut u32, room: usize) -> u8;
     pub fn mkb_open(currency: i64, weights: *const u32, count: usize) -> Opened;

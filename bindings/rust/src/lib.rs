@@ -126,6 +126,30 @@ impl From<ffi::Split> for Result<Split, Refusal> {
     }
 }
 
+/// A row of a spreadsheet.
+#[derive(Clone, Copy, Debug, PartialEq)]
+pub struct Row {
+    pub net: f64,
+    pub tax: f64,
+}
+
+/// Both columns of a row as amounts.
+#[derive(Clone, Copy, Debug, PartialEq, Eq)]
+pub struct Columns {
+    pub net: Amount,
+    pub tax: Amount,
+}
+
+impl Row {
+    /// Both columns at the scale, 0 to 3, from the doubles' exact worth, rounded by the mode: refusals 1, 2, 4, 13, 16.
+    pub fn take(self, currency: Currency, scale: u8, mode: u8) -> Result<Columns, Refusal> {
+        let row = ffi::Columns { net: self.net, tax: self.tax };
+        // SAFETY: numbers alone cross
+        let r = unsafe { ffi::mkb_row(row, currency.0.into(), scale.into(), mode.into()) };
+        Refusal::or(r.refusal, r.blamed, Columns { net: r.net.into(), tax: r.tax.into() })
+    }
+}
+
 // SAFETY of the calls below: the structs have the layout of morskebab.h, any values may stand in them, and a slice is lent whole
 impl Amount {
     /// The largest magnitude of a coefficient.
@@ -192,6 +216,12 @@ impl Amount {
     /// The price of the only net that has this gross: refusals 1, 2, 3, 4, 6, and 15 where no net has it.
     pub fn net_for(self, rate: u32, mode: u8) -> Result<Split, Refusal> {
         unsafe { ffi::mkb_net_for(self.into(), rate.into(), mode.into()) }.into()
+    }
+
+    /// The coefficient as a double, divided once by 10^scale, for a scale of 0 to 3: refusals 2, 3, 4.
+    pub fn export(self) -> Result<f64, Refusal> {
+        let r = unsafe { ffi::mkb_export(self.into()) };
+        Refusal::or(r.refusal, r.blamed, r.value)
     }
 
     /// The shares by largest remainder into the first places of `out`, as many as weights; the others, and every place where the call is

@@ -13,7 +13,7 @@ pub enum Blamed {
 pub enum Refusal {
     /// 1: the mode isn't 0 to 6
     Mode,
-    /// 2: a scale is over 6, or (conversions, the book) isn't the known currency's own digits
+    /// 2: a scale is over 6, or (conversions, the book) isn't the known currency's own digits, or (doubles) is over 3
     Scale,
     /// 3: a given coefficient or net total is over L, or a factor's magnitude is over 10^18
     Magnitude,
@@ -39,6 +39,8 @@ pub enum Refusal {
     Limit,
     /// 15: no net has the gross
     NoNet,
+    /// 16: a double is no number or infinite
+    NoNumber,
 }
 
 impl Refusal {
@@ -59,6 +61,7 @@ impl Refusal {
             Refusal::Refund => 12,
             Refusal::Limit => 13,
             Refusal::NoNet => 15,
+            Refusal::NoNumber => 16,
         }
     }
 
@@ -66,7 +69,7 @@ impl Refusal {
     pub fn words(self) -> &'static str {
         match self {
             Refusal::Mode => "the mode isn't 0 to 6",
-            Refusal::Scale => "a scale is over 6, or isn't the currency's own digits",
+            Refusal::Scale => "a scale is over 6, or isn't the currency's own digits, or (doubles) is over 3",
             Refusal::Magnitude => "a given coefficient or net total is over L, or a factor's magnitude over 10^18",
             Refusal::Unknown => "a currency number is over 20",
             Refusal::Differ => "two currencies that must agree differ",
@@ -80,6 +83,7 @@ impl Refusal {
             Refusal::Refund => "a refund is greater than the net total",
             Refusal::Limit => "the result, the euro step, a row of a table or the new net total is over L, or a plain quotient over 10^18",
             Refusal::NoNet => "no net has the gross",
+            Refusal::NoNumber => "a double is no number or infinite",
         }
     }
 
@@ -102,6 +106,7 @@ impl Refusal {
             12 => Refusal::Refund,
             13 => Refusal::Limit,
             15 => Refusal::NoNet,
+            16 => Refusal::NoNumber,
             other => panic!("the archive answered with {other}, which the table doesn't have"),
         })
     }

@@ -1,5 +1,7 @@
 //! Document 01's cases ("Two sides of each line"), its table of currencies and books broken in each field through the Rust crate.
-use morskebab::{day_count, mode, plain_quotient, version, vouchers, Amount, Basis, Blamed, Book, Currency, Date, Moved, Refusal, Split};
+use morskebab::{
+    day_count, mode, plain_quotient, version, vouchers, Amount, Basis, Blamed, Book, Columns, Currency, Date, Moved, Refusal, Row, Split,
+};
 use std::cmp::Ordering;
 
 const EUR: Currency = Currency(0);
@@ -161,6 +163,36 @@ fn prices() {
     assert_eq!(euros(-4).net_for(200_000, mode::HALF_UP), Ok(split(-3, -1, -4)));
     assert_eq!(euros(3).net_for(200_000, mode::HALF_UP), Err(Refusal::NoNet));
     assert_eq!(euros(3).net_for(1_000_001, mode::HALF_UP), Err(Refusal::Rate));
+}
+
+#[test]
+fn rows_of_doubles() {
+    let take = |net, tax, scale, mode| Row { net, tax }.take(EUR, scale, mode);
+    let columns = |scale, net, tax| Ok(Columns { net: Amount::new(EUR, scale, net), tax: Amount::new(EUR, scale, tax) });
+    let (many, least) = (Amount::L as f64, f64::from_bits(1));
+    assert_eq!(take(2.675, -2.675, 2, mode::HALF_UP), columns(2, 267, -267));
+    assert_eq!(take(0.125, 0.375, 2, mode::HALF_EVEN), columns(2, 12, 38));
+    assert_eq!(take(0.0, -0.0, 3, mode::UP), columns(3, 0, 0));
+    assert_eq!(take(least, -least, 0, mode::UP), columns(0, 1, -1));
+    assert_eq!(take(many, -many, 0, mode::UP), columns(0, Amount::L, -Amount::L));
+    assert_eq!(take(many + 1.0, 0.0, 0, mode::DOWN), Err(Refusal::Limit));
+    assert_eq!(take(f64::NAN, 1e300, 0, mode::DOWN), Err(Refusal::Limit));
+    for column in [f64::NAN, -f64::NAN, f64::INFINITY, f64::NEG_INFINITY] {
+        assert_eq!(take(column, 1.0, 2, mode::UP), Err(Refusal::NoNumber));
+        assert_eq!(take(1.0, column, 2, mode::UP), Err(Refusal::NoNumber));
+    }
+    let broken = Row { net: f64::NAN, tax: 1e300 };
+    assert_eq!(broken.take(Currency(21), 4, 7), Err(Refusal::Mode));
+    assert_eq!(broken.take(Currency(21), 4, mode::UP), Err(Refusal::Scale));
+    assert_eq!(broken.take(Currency(21), 3, mode::UP), Err(Refusal::Unknown));
+    for (scale, power) in [(0, 1.0), (1, 10.0), (2, 100.0), (3, 1_000.0)] {
+        for n in [0, 1, -1, 267, 2_675, Amount::L, -Amount::L] {
+            assert_eq!(Amount::new(EUR, scale, n).export().map(f64::to_bits), Ok((n as f64 / power).to_bits()));
+        }
+    }
+    assert_eq!(Amount::new(Currency(21), 4, Amount::L + 1).export(), Err(Refusal::Scale));
+    assert_eq!(Amount::new(Currency(21), 3, Amount::L + 1).export(), Err(Refusal::Magnitude));
+    assert_eq!(Amount::new(Currency(21), 3, 1).export(), Err(Refusal::Unknown));
 }
 
 #[test]

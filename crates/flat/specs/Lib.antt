@@ -1,3 +1,4 @@
 pub mod Given
 pub mod Answers
 pub mod Books
+pub mod Rows

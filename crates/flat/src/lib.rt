@@ -11,6 +11,7 @@ mod lines;
 mod numbers;
 mod orders;
 mod prices;
+mod rows;
 mod wholes;
 
 pub use amounts::flat_answer;
@@ -29,6 +30,9 @@ pub use numbers::pass_u32;
 pub use numbers::pass_u64;
 pub use orders::flat_order;
 pub use prices::flat_split;
+pub use rows::flat_double;
+pub use rows::flat_row;
+pub use rows::given_row;
 pub use wholes::flat_whole;
 
 // Its worth is coefficient / 10^scale.
@@ -101,6 +105,28 @@ pub struct MkbSplit {
     pub net: MkbAmount,
     pub tax: MkbAmount,
     pub gross: MkbAmount,
+}
+
+// A row of a spreadsheet.
+#[repr(C)]
+pub struct MkbColumns {
+    pub net: f64,
+    pub tax: f64,
+}
+
+#[repr(C)]
+pub struct MkbRowAnswer {
+    pub refusal: u8,
+    pub blamed: u8,
+    pub net: MkbAmount,
+    pub tax: MkbAmount,
+}
+
+#[repr(C)]
+pub struct MkbDouble {
+    pub refusal: u8,
+    pub blamed: u8,
+    pub value: f64,
 }
 
 #[repr(C)]

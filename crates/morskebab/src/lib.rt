@@ -4,6 +4,7 @@ mod amounts;
 mod books;
 mod days;
 mod prices;
+mod rows;
 mod runs;
 mod shares;
 mod tables;
