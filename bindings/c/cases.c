@@ -325,6 +325,7 @@ int main(void)
     history();
     refusals();
     limits();
+    statements();
     runs();
     if (failed) {
         printf("c face: %d cases passed, %d failed\n", passed, failed);

@@ -21,3 +21,5 @@ SIZE(mkb_opened, 88); AT(mkb_opened, blamed, 1); AT(mkb_opened, book, 8);
 SIZE(mkb_moved, 216); AT(mkb_moved, blamed, 1); AT(mkb_moved, book, 8); AT(mkb_moved, payouts, 88);
 SIZE(mkb_totals, 136); AT(mkb_totals, blamed, 1); AT(mkb_totals, totals, 8);
 SIZE(mkb_ran, 96); AT(mkb_ran, blamed, 1); AT(mkb_ran, book, 8); AT(mkb_ran, served, 88);
+SIZE(mkb_end, 16); AT(mkb_end, blamed, 1); AT(mkb_end, end, 8);
+SIZE(mkb_statement, 32); AT(mkb_statement, blamed, 1); AT(mkb_statement, first, 8); AT(mkb_statement, count, 16); AT(mkb_statement, sum, 24);

@@ -36,11 +36,12 @@ enum mkb_refusal {
     MKB_RATE = 6,      /* a plain divisor isn't 1 to 10^18, a rate, a number of vouchers or of periods is outside its limits, or the basis isn't 0 to 3 */
     MKB_DATE = 7,      /* a date doesn't exist or its year isn't 1900 to 2199 */
     MKB_DAYS = 8,      /* the end is before the start, or the day count is over 366 */
-    MKB_WEIGHTS = 9,   /* weights break their rule */
+    MKB_WEIGHTS = 9,   /* weights break their rule, lists differ in length, or a statement's place is over 15 */
     MKB_NEGATIVE = 10, /* a posting, a refund, a table's principal or a given net total is negative */
     MKB_ROOM = 11,     /* the lent output is too short */
     MKB_REFUND = 12,   /* a refund is greater than the net total */
     MKB_LIMIT = 13,    /* the result, the euro step, a row of a table or the new net total is over L, or a plain quotient over 10^18 */
+    MKB_MALFORMED = 14, /* the bytes end in no statement file */
     MKB_NO_NET = 15,   /* no net has the gross */
     MKB_NO_NUMBER = 16 /* a double is no number or infinite */
 };
@@ -142,6 +143,19 @@ typedef struct {
     uint64_t served;
 } mkb_ran;
 
+/* the place behind a statement's last byte */
+typedef struct {
+    uint8_t refusal, blamed;
+    uint64_t end;
+} mkb_end;
+
+/* a statement's first record, the count of its records and the sum of their coefficients */
+typedef struct {
+    uint8_t refusal, blamed;
+    uint64_t first, count;
+    int64_t sum;
+} mkb_statement;
+
 /* the version of the library */
 uint32_t mkb_version(void);
 
@@ -211,6 +225,14 @@ mkb_totals mkb_running_totals(mkb_book book);
  * 9 where the lists' lengths differ, 11 where there is too little room */
 mkb_ran mkb_run(mkb_book book, const bool *refunds, size_t calls, const int64_t *coefficients, size_t count, uint64_t *payouts, size_t payouts_room,
                 uint8_t *numbers, size_t numbers_room);
+
+/* a statement file in out from the byte `start` on: a record of 16 bytes for each payout, its partner's place (0 to 15), the currency and the
+ * coefficient, at most 4,000 of them, and a trailer of 24 bytes that points back; the file's end. No other byte changes, and none where the call
+ * is refused: 3, 4, 9 where the lists' lengths differ or a place is over 15, 11 where there are more than 4,000 or too little room */
+mkb_end mkb_write_statement(int64_t currency, const uint16_t *places, size_t count, const int64_t *coefficients, size_t others, uint8_t *out, size_t room,
+                            int64_t start);
+/* the statement file that the bytes end in: its first record's start, its count and its sum; 14 where they end in none */
+mkb_statement mkb_check_statement(const uint8_t *bytes, size_t count);
 
 #ifdef __cplusplus
 }

@@ -71,4 +71,5 @@ static inline void not_moved(const char *name, mkb_moved r, int number, mkb_book
 void limits(void);
 /* rows of doubles and exports (doubles.c) */
 void doubles(void);
+void statements(void);
 #endif

@@ -18,7 +18,7 @@ whole number raises TypeError, and one that its C type can't hold OverflowError;
 from __future__ import annotations
 
 from collections.abc import Sequence
-from ctypes import c_bool, c_int32, c_int64, c_uint8, c_uint32, c_uint64
+from ctypes import c_bool, c_int32, c_int64, c_uint8, c_uint16, c_uint32, c_uint64
 from dataclasses import dataclass
 from decimal import Decimal
 from enum import IntEnum
@@ -352,3 +352,37 @@ class Book:
         last = Book._of(_accepted(answer).book)
         paid = (payouts[PARTNERS * call : PARTNERS * call + len(self.weights)] for call in range(calls))
         return Ran(last, tuple(tuple(places) for places in paid), tuple(numbers[:calls]))
+
+
+class Statement(NamedTuple):
+    """What a statement file says of itself: its first record's start, the count of its records and the sum of their coefficients."""
+
+    first: int
+    count: int
+    sum: int
+
+
+def _bytes(field: str, data: Any) -> tuple[Any, int]:
+    """Bytes to read, and their number."""
+    if not isinstance(data, (bytes, bytearray, memoryview)):
+        raise TypeError(f"{field} must be bytes, not {type(data).__name__}")
+    held = bytes(data)
+    return (c_uint8 * (len(held) + 1)).from_buffer_copy(held + b"\0"), len(held)
+
+
+def write_statement(currency: int, places: Sequence[int], coefficients: Sequence[int], out: bytearray, start: int = 0) -> int:
+    """A statement file in `out` from the byte `start` on, a record for each payout and a trailer; the file's end. No other byte changes, and none
+    where the call is refused: refusals 3, 4, 9, 11."""
+    partners, count = as_list(c_uint16, "places", places)
+    payouts, others = as_list(c_int64, "coefficients", coefficients)
+    room = len(is_a(bytearray, "out", out))
+    # an empty buffer has no address
+    lent = (c_uint8 * room).from_buffer(out) if room else (c_uint8 * 1)()
+    numbers = whole(c_int64, "currency", currency), whole(c_int64, "start", start)
+    return _accepted(_library.mkb_write_statement(numbers[0], partners, count, payouts, others, lent, room, numbers[1])).end
+
+
+def check_statement(data: bytes | bytearray | memoryview) -> Statement:
+    """The statement file that the bytes end in: refusal 14 where they end in none."""
+    answer = _accepted(_library.mkb_check_statement(*_bytes("data", data)))
+    return Statement(answer.first, answer.count, answer.sum)

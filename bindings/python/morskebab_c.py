@@ -2,7 +2,7 @@
 import ctypes
 import os
 import pathlib
-from ctypes import POINTER, Structure, c_bool, c_double, c_int8, c_int32, c_int64, c_size_t, c_uint8, c_uint32, c_uint64
+from ctypes import POINTER, Structure, c_bool, c_double, c_int8, c_int32, c_int64, c_size_t, c_uint8, c_uint16, c_uint32, c_uint64
 
 PARTNERS = 16
 # MKB_VERSION: 10,000 x major + 100 x minor + patch
@@ -45,6 +45,8 @@ COpened = _answer("COpened", ("book", CBook))
 CMoved = _answer("CMoved", ("book", CBook), ("payouts", c_uint64 * PARTNERS))
 CTotals = _answer("CTotals", ("totals", c_uint64 * PARTNERS))
 CRan = _answer("CRan", ("book", CBook), ("served", c_uint64))
+CEnd = _answer("CEnd", ("end", c_uint64))
+CStatement = _answer("CStatement", ("first", c_uint64), ("count", c_uint64), ("sum", c_int64))
 
 
 def _lent(kind: type) -> tuple:
@@ -78,6 +80,8 @@ FUNCTIONS = {
     "mkb_post": (CMoved, CBook, CAmount),
     "mkb_refund": (CMoved, CBook, CAmount),
     "mkb_running_totals": (CTotals, CBook),
+    "mkb_write_statement": (CEnd, c_int64, *_lent(c_uint16), *_lent(c_int64), *_lent(c_uint8), c_int64),
+    "mkb_check_statement": (CStatement, *_lent(c_uint8)),
     "mkb_run": (CRan, CBook, *_lent(c_bool), *_lent(c_int64), *_lent(c_uint64), *_lent(c_uint8)),
 }
 

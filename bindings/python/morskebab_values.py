@@ -15,11 +15,12 @@ REASONS = {
     6: "a divisor, a rate, a number of vouchers or of periods or the basis is outside its limits",
     7: "a date doesn't exist or its year isn't 1900 to 2199",
     8: "the end is before the start, or the day count is over 366",
-    9: "weights break their rule",
+    9: "weights break their rule, lists differ in length, or a statement's place is over 15",
     10: "a posting, a refund, a table's principal or a given net total is negative",
     11: "the lent output is too short",
     12: "a refund is greater than the net total",
     13: "the result, the euro step, a row of a table or the new net total is over L, or a plain quotient over 10^18",
+    14: "the bytes end in no statement file",
     15: "no net has the gross",
     16: "a double is no number or infinite",
 }

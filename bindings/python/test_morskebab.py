@@ -9,9 +9,10 @@ from decimal import Decimal
 
 import morskebab
 from morskebab import (
-    DEM, EUR, FRF, IEP, ITL, CEILING, DOWN, FLOOR, HALF_DOWN, HALF_EVEN, HALF_UP, UP, L, REASONS,
+    DEM, EUR, FRF, HRK, IEP, ITL, CEILING, DOWN, FLOOR, HALF_DOWN, HALF_EVEN, HALF_UP, UP, L, REASONS,
     ACTUAL_360, ACTUAL_365, THIRTY_360_AMERICAN, THIRTY_360_EUROPEAN,
     Amount, Book, Columns, Date, Moved, Ran, Refused, Split, currency_line, day_count, plain_quotient, take_row, vouchers,
+    Amount, Book, Date, Moved, Ran, Refused, Split, currency_line, day_count, plain_quotient, vouchers, Statement, check_statement, write_statement,
 )
 from morskebab_c import PARTNERS, CAmount, CBook
 
@@ -327,6 +328,33 @@ def broken_books():
     refused(10, lambda: Book(EUR, whole, -1).run([], []))
 
 
+ONE = bytes.fromhex("0200000000000000 1EFBFFFFFFFFFFFF 10000000 01000000 1EFBFFFFFFFFFFFF 0100000000000000")
+
+
+def statements():
+    out = bytearray(b"\xa5" * 64)
+    same((write_statement(EUR, [2], [-1250], out), bytes(out)), (40, ONE + b"\xa5" * 24))
+    same((check_statement(ONE), check_statement(bytes(7) + ONE)), (Statement(0, 1, -1250), Statement(7, 1, -1250)))
+    same((write_statement(HRK, [], [], out, 40), check_statement(out), check_statement(memoryview(out)[:40])), (64, Statement(40, 0, 0), Statement(0, 1, -1250)))
+    stood = bytes(out)
+    for number, currency, places, coefficients, start in (
+        (3, 21, [16], [L + 1], 99), (4, 21, [16], [1], 99), (9, EUR, [16], [1], 99), (9, EUR, [1], [], 99), (9, EUR, [], [1], 0),
+        (11, EUR, [1], [1], 25), (11, EUR, [1], [1], -1), (11, EUR, [1], [1], 2**63 - 1),
+    ):
+        refused(number, lambda: write_statement(currency, places, coefficients, out, start))
+        same(bytes(out), stood)
+    large = bytearray(64024)
+    same(write_statement(DEM, [i % 16 for i in range(4000)], [-L] * 4000, large), 64024)
+    same(check_statement(large), Statement(0, 4000, -4000 * L))
+    refused(11, lambda: write_statement(DEM, [0] * 4001, [0] * 4001, bytearray(70000)))
+    refused(11, lambda: write_statement(DEM, [], [], bytearray()))
+    for data in (b"", ONE[:-1], ONE[1:], ONE + b"\0", ONE[:32] + b"\2" + ONE[33:]):
+        refused(14, lambda: check_statement(data))
+    named(TypeError, "out", lambda: write_statement(EUR, [1], [1], b"1234"))
+    named(TypeError, "data", lambda: check_statement("1234"))
+    named(OverflowError, "places[0]", lambda: write_statement(EUR, [65536], [1], out))
+
+
 def negated(coefficient):
     return -euros(coefficient)
 
@@ -348,7 +376,7 @@ def versions():
 
 
 def main():
-    for part in (modes, amounts, past_limits, texts_and_decimals, fields, lines, euro_steps, days, tables, prices, rows_of_doubles, shares, handed_out, books, broken_books, processes, versions):
+    for part in (modes, amounts, past_limits, texts_and_decimals, fields, lines, euro_steps, days, tables, prices, rows_of_doubles, shares, handed_out, books, broken_books, statements, processes, versions):
         part()
     examples = doctest.testmod(morskebab)
     assert not examples.failed

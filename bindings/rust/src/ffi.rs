@@ -121,6 +121,22 @@ pub struct Ran {
     pub served: u64,
 }
 
+#[repr(C)]
+pub struct End {
+    pub refusal: u8,
+    pub blamed: u8,
+    pub end: u64,
+}
+
+#[repr(C)]
+pub struct Statement {
+    pub refusal: u8,
+    pub blamed: u8,
+    pub first: u64,
+    pub count: u64,
+    pub sum: i64,
+}
+
 /// A field of what the library hands back: such a number is a `u8` of its own.
 pub fn small(n: i32) -> u8 {
     n as u8
@@ -151,6 +167,17 @@ extern "C" {
     pub fn mkb_post(book: Book, a: Amount) -> Moved;
     pub fn mkb_refund(book: Book, a: Amount) -> Moved;
     pub fn mkb_running_totals(book: Book) -> Totals;
+    pub fn mkb_write_statement(
+        currency: i64,
+        places: *const u16,
+        count: usize,
+        coefficients: *const i64,
+        others: usize,
+        out: *mut u8,
+        room: usize,
+        start: i64,
+    ) -> End;
+    pub fn mkb_check_statement(bytes: *const u8, count: usize) -> Statement;
     pub fn mkb_run(
         book: Book,
         refunds: *const bool,

@@ -15,9 +15,11 @@
 mod books;
 mod ffi;
 mod refusal;
+mod statements;
 
 pub use books::{Book, Moved};
 pub use refusal::{Blamed, Refusal};
+pub use statements::{check_statement, write_statement, Statement};
 use std::cmp::Ordering;
 
 /// The mode numbers.

@@ -27,7 +27,7 @@ pub enum Refusal {
     Date(Blamed),
     /// 8: the end is before the start, or the day count is over 366
     Days,
-    /// 9: weights break their rule
+    /// 9: weights break their rule, lists differ in length, or a statement's place is over 15
     Weights,
     /// 10: a posting, a refund, a table's principal or a given net total is negative
     Negative,
@@ -37,6 +37,8 @@ pub enum Refusal {
     Refund,
     /// 13: the result, the euro step, a row of a table or the new net total is over L, or a plain quotient over 10^18
     Limit,
+    /// 14: the bytes end in no statement file
+    Malformed,
     /// 15: no net has the gross
     NoNet,
     /// 16: a double is no number or infinite
@@ -60,6 +62,7 @@ impl Refusal {
             Refusal::Room => 11,
             Refusal::Refund => 12,
             Refusal::Limit => 13,
+            Refusal::Malformed => 14,
             Refusal::NoNet => 15,
             Refusal::NoNumber => 16,
         }
@@ -77,11 +80,12 @@ impl Refusal {
             Refusal::Date(Blamed::First) => "a date doesn't exist or its year isn't 1900 to 2199 (the first date)",
             Refusal::Date(Blamed::Second) => "a date doesn't exist or its year isn't 1900 to 2199 (the second date)",
             Refusal::Days => "the end is before the start, or the day count is over 366",
-            Refusal::Weights => "weights break their rule",
+            Refusal::Weights => "weights break their rule, lists differ in length, or a statement's place is over 15",
             Refusal::Negative => "a posting, a refund, a table's principal or a given net total is negative",
             Refusal::Room => "the lent output is too short",
             Refusal::Refund => "a refund is greater than the net total",
             Refusal::Limit => "the result, the euro step, a row of a table or the new net total is over L, or a plain quotient over 10^18",
+            Refusal::Malformed => "the bytes end in no statement file",
             Refusal::NoNet => "no net has the gross",
             Refusal::NoNumber => "a double is no number or infinite",
         }
@@ -105,6 +109,7 @@ impl Refusal {
             11 => Refusal::Room,
             12 => Refusal::Refund,
             13 => Refusal::Limit,
+            14 => Refusal::Malformed,
             15 => Refusal::NoNet,
             16 => Refusal::NoNumber,
             other => panic!("the archive answered with {other}, which the table doesn't have"),

@@ -2,3 +2,4 @@ pub mod Given
 pub mod Answers
 pub mod Books
 pub mod Rows
+pub mod Statements

@@ -12,6 +12,7 @@ mod numbers;
 mod orders;
 mod prices;
 mod rows;
+mod statements;
 mod wholes;
 
 pub use amounts::flat_answer;
@@ -33,6 +34,8 @@ pub use prices::flat_split;
 pub use rows::flat_double;
 pub use rows::flat_row;
 pub use rows::given_row;
+pub use statements::flat_end;
+pub use statements::flat_statement;
 pub use wholes::flat_whole;
 
 // Its worth is coefficient / 10^scale.
@@ -159,4 +162,22 @@ pub struct MkbRan {
     pub blamed: u8,
     pub book: MkbBook,
     pub served: u64,
+}
+
+// The place behind a statement's last byte.
+#[repr(C)]
+pub struct MkbEnd {
+    pub refusal: u8,
+    pub blamed: u8,
+    pub end: u64,
+}
+
+// What a statement says of itself: the first record's start, the count of its records and the sum of their coefficients.
+#[repr(C)]
+pub struct MkbStatement {
+    pub refusal: u8,
+    pub blamed: u8,
+    pub first: u64,
+    pub count: u64,
+    pub sum: i64,
 }

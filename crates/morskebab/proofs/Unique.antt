@@ -12,6 +12,8 @@ use Rattle.weights.specs.Lent.{outAfter}
 use Rattle.sharing.specs.Shared.{sharedSaid}
 use Rattle.vouchers.specs.Said.{vouchersSaid}
 use Rattle.compound.specs.Table.{tableSaid, listAfter}
+use Rattle.statement.specs.Files.{fileBytes}
+use Rattle.statement.specs.Writing.{payout, writeSaid, bufferAfter}
 use Rattle.tax.specs.declared.Taxed.{Taxed}
 use Rattle.tax.specs.Tax.{meansTax}
 use Rattle.tax.proofs.Unique.{one-net-for-gross}
@@ -20,7 +22,9 @@ use Rattle.flat.specs.declared.MkbSplit.{MkbSplit}
 use Rattle.bulk.specs.Runs.{runSaid, payoutsAfter, numbersAfter}
 use Rattle.flat.specs.declared.MkbBook.{MkbBook}
 use Rattle.flat.specs.declared.MkbRan.{MkbRan}
-use Rattle.flat.specs.Given.{amountFrom, bookFrom, passed8, passed32}
+use Rattle.flat.specs.declared.MkbEnd.{MkbEnd}
+use Rattle.flat.specs.Given.{currencyFrom, amountFrom, bookFrom, passed8, passed32, passed64}
+use Rattle.flat.specs.Statements.{endOf}
 use Rattle.flat.specs.Answers.{refusalOf, splitOf}
 use Rattle.flat.specs.Books.{ranOf}
 use Rattle.morskebab.specs.NetAnswer.{NetAnswer}
@@ -58,6 +62,16 @@ Tables principal rate periods out r left =
 pub one-compound : (principal : MkbAmount) (rate periods : ℤ) (out : List ℤ) (r s : ℕ) (left left′ : List ℤ)
     → Tables principal rate periods out r left → Tables principal rate periods out s left′ → (r ≡ s) × (left ≡ left′)
 one-compound principal rate periods out r s left left′ p q = (one-answer (p .0) (q .0), one-answer (p .1) (q .1))
+
+-- what `mkb_write_statement` promises of its answer and of the buffer that it was lent
+abbrev pub Writes : (currency : ℤ) (places : List ℕ) (coefficients : List ℤ) (out : List ℕ) (start : ℤ) (r : MkbEnd) (left : List ℕ) → Type 0
+Writes currency places coefficients out start r left =
+    let said = writeSaid (currencyFrom currency) places coefficients (length out) (passed64 start) in
+    (r ≡ endOf said) × (left ≡ bufferAfter said (passed64 start) (fileBytes (payout (currencyFrom currency) places coefficients) (length places)) out)
+
+pub one-statement : (currency : ℤ) (places : List ℕ) (coefficients : List ℤ) (out : List ℕ) (start : ℤ) (r s : MkbEnd) (left left′ : List ℕ)
+    → Writes currency places coefficients out start r left → Writes currency places coefficients out start s left′ → (r ≡ s) × (left ≡ left′)
+one-statement currency places coefficients out start r s left left′ p q = (one-answer (p .0) (q .0), one-answer (p .1) (q .1))
 
 -- what `mkb_run` promises of its answer and of the places that it was lent, which are those after as many calls as the answer says were served
 pub record Ran (book : MkbBook) (refunds : List Bool) (coefficients : List ℤ) (payouts numbers : List ℕ) (r : MkbRan) (paid said : List ℕ) : Type 0 where

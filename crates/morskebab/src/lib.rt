@@ -7,5 +7,6 @@ mod prices;
 mod rows;
 mod runs;
 mod shares;
+mod statements;
 mod tables;
 mod versions;

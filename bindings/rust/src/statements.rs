@@ -1,0 +1,38 @@
+//! Statement files.
+use crate::{ffi, Currency, Refusal};
+
+/// What a statement file says of itself: its first record's start, the count of its records and the sum of their coefficients.
+#[derive(Clone, Copy, Debug, PartialEq, Eq)]
+pub struct Statement {
+    pub first: usize,
+    pub count: usize,
+    pub sum: i64,
+}
+
+/// A statement file in `out` from the byte `start` on, a record for each payout and a trailer; the file's end. No other byte changes, and none
+/// where the call is refused: refusals 3, 4, 9, 11.
+pub fn write_statement(currency: Currency, places: &[u16], coefficients: &[i64], out: &mut [u8], start: usize) -> Result<usize, Refusal> {
+    // no buffer reaches past the largest i64
+    let start = i64::try_from(start).unwrap_or(i64::MAX);
+    // SAFETY: each pointer goes with its list's length, and `out` is borrowed alone
+    let r = unsafe {
+        ffi::mkb_write_statement(
+            currency.0.into(),
+            places.as_ptr(),
+            places.len(),
+            coefficients.as_ptr(),
+            coefficients.len(),
+            out.as_mut_ptr(),
+            out.len(),
+            start,
+        )
+    };
+    Refusal::or(r.refusal, r.blamed, r.end as usize)
+}
+
+/// The statement file that the bytes end in: refusal 14 where they end in none.
+pub fn check_statement(bytes: &[u8]) -> Result<Statement, Refusal> {
+    // SAFETY: the pointer goes with the slice's length
+    let r = unsafe { ffi::mkb_check_statement(bytes.as_ptr(), bytes.len()) };
+    Refusal::or(r.refusal, r.blamed, Statement { first: r.first as usize, count: r.count as usize, sum: r.sum })
+}
