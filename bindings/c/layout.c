@@ -7,7 +7,8 @@
 
 SIZE(mkb_amount, 16); AT(mkb_amount, currency, 0); AT(mkb_amount, scale, 4); AT(mkb_amount, coefficient, 8);
 SIZE(mkb_date, 12); AT(mkb_date, year, 0); AT(mkb_date, month, 4); AT(mkb_date, day, 8);
-SIZE(mkb_book, 80); AT(mkb_book, currency, 0); AT(mkb_book, count, 4); AT(mkb_book, weights, 8); AT(mkb_book, net, 72);
+SIZE(mkb_book, 216); AT(mkb_book, currency, 0); AT(mkb_book, count, 4); AT(mkb_book, weights, 8); AT(mkb_book, net, 72);
+AT(mkb_book, card, 80); AT(mkb_book, settled, 88);
 SIZE(mkb_line, 16); AT(mkb_line, code, 0); AT(mkb_line, places, 3); AT(mkb_line, digits, 4); AT(mkb_line, figures, 8);
 SIZE(mkb_whole, 16); AT(mkb_whole, refusal, 0); AT(mkb_whole, blamed, 1); AT(mkb_whole, value, 8);
 SIZE(mkb_amount_answer, 24); AT(mkb_amount_answer, blamed, 1); AT(mkb_amount_answer, amount, 8);
@@ -17,9 +18,9 @@ SIZE(mkb_split, 56); AT(mkb_split, blamed, 1); AT(mkb_split, net, 8); AT(mkb_spl
 SIZE(mkb_columns, 16); AT(mkb_columns, net, 0); AT(mkb_columns, tax, 8);
 SIZE(mkb_row_answer, 40); AT(mkb_row_answer, blamed, 1); AT(mkb_row_answer, net, 8); AT(mkb_row_answer, tax, 24);
 SIZE(mkb_double, 16); AT(mkb_double, blamed, 1); AT(mkb_double, value, 8);
-SIZE(mkb_opened, 88); AT(mkb_opened, blamed, 1); AT(mkb_opened, book, 8);
-SIZE(mkb_moved, 216); AT(mkb_moved, blamed, 1); AT(mkb_moved, book, 8); AT(mkb_moved, payouts, 88);
+SIZE(mkb_opened, 224); AT(mkb_opened, blamed, 1); AT(mkb_opened, book, 8);
+SIZE(mkb_moved, 352); AT(mkb_moved, blamed, 1); AT(mkb_moved, book, 8); AT(mkb_moved, payouts, 224);
 SIZE(mkb_totals, 136); AT(mkb_totals, blamed, 1); AT(mkb_totals, totals, 8);
-SIZE(mkb_ran, 96); AT(mkb_ran, blamed, 1); AT(mkb_ran, book, 8); AT(mkb_ran, served, 88);
+SIZE(mkb_ran, 232); AT(mkb_ran, blamed, 1); AT(mkb_ran, book, 8); AT(mkb_ran, served, 224);
 SIZE(mkb_end, 16); AT(mkb_end, blamed, 1); AT(mkb_end, end, 8);
 SIZE(mkb_statement, 32); AT(mkb_statement, blamed, 1); AT(mkb_statement, first, 8); AT(mkb_statement, count, 16); AT(mkb_statement, sum, 24);

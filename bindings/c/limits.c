@@ -76,26 +76,40 @@ static void broken(void)
         int number;
         mkb_book book;
     } books[] = {
-        {"currency 21", MKB_UNKNOWN, {21, 3, {5, 3, 2}, 9}},
-        {"currency 256", MKB_UNKNOWN, {256, 3, {5, 3, 2}, 9}},
-        {"currency -1", MKB_UNKNOWN, {-1, 3, {5, 3, 2}, 9}},
-        {"count 0", MKB_WEIGHTS, {EUR, 0, {5, 3, 2}, 9}},
-        {"count 17", MKB_WEIGHTS, {EUR, 17, {5, 3, 2}, 9}},
-        {"count 259", MKB_WEIGHTS, {EUR, 259, {5, 3, 2}, 9}},
-        {"count -1", MKB_WEIGHTS, {EUR, -1, {5, 3, 2}, 9}},
-        {"a weight past the count", MKB_WEIGHTS, {EUR, 2, {5, 3, 2}, 9}},
-        {"a weight at the last place", MKB_WEIGHTS, {EUR, 3, {[0] = 5, [15] = 1}, 9}},
-        {"a sum of 0", MKB_WEIGHTS, {EUR, 3, {0}, 9}},
-        {"a sum of 10,001", MKB_WEIGHTS, {EUR, 3, {9998, 2, 1}, 9}},
-        {"a sum past 2^32", MKB_WEIGHTS, {EUR, 3, {UINT32_MAX, 2, 9}, 9}},
-        {"a net total of -1", MKB_NEGATIVE, {EUR, 3, {5, 3, 2}, -1}},
-        {"a net total of L + 1", MKB_MAGNITUDE, {EUR, 3, {5, 3, 2}, MKB_L + 1}},
-        {"a net total of -(L + 1)", MKB_MAGNITUDE, {EUR, 3, {5, 3, 2}, -MKB_L - 1}},
+        {"currency 21", MKB_UNKNOWN, {21, 3, {5, 3, 2}, 9, 1, {0}}},
+        {"currency 256", MKB_UNKNOWN, {256, 3, {5, 3, 2}, 9, 1, {0}}},
+        {"currency -1", MKB_UNKNOWN, {-1, 3, {5, 3, 2}, 9, 1, {0}}},
+        {"count 0", MKB_WEIGHTS, {EUR, 0, {5, 3, 2}, 9, 1, {0}}},
+        {"count 17", MKB_WEIGHTS, {EUR, 17, {5, 3, 2}, 9, 1, {0}}},
+        {"count 259", MKB_WEIGHTS, {EUR, 259, {5, 3, 2}, 9, 1, {0}}},
+        {"count -1", MKB_WEIGHTS, {EUR, -1, {5, 3, 2}, 9, 1, {0}}},
+        {"a weight past the count", MKB_WEIGHTS, {EUR, 2, {5, 3, 2}, 9, 1, {0}}},
+        {"a weight at the last place", MKB_WEIGHTS, {EUR, 3, {[0] = 5, [15] = 1}, 9, 1, {0}}},
+        {"a sum of 0", MKB_WEIGHTS, {EUR, 3, {0}, 9, 1, {0}}},
+        {"a sum of 10,001", MKB_WEIGHTS, {EUR, 3, {9998, 2, 1}, 9, 1, {0}}},
+        {"a sum past 2^32", MKB_WEIGHTS, {EUR, 3, {UINT32_MAX, 2, 9}, 9, 1, {0}}},
+        {"a net total of -1", MKB_NEGATIVE, {EUR, 3, {5, 3, 2}, -1, 1, {0}}},
+        {"a net total of L + 1", MKB_MAGNITUDE, {EUR, 3, {5, 3, 2}, MKB_L + 1, 1, {0}}},
+        {"a net total of -(L + 1)", MKB_MAGNITUDE, {EUR, 3, {5, 3, 2}, -MKB_L - 1, 1, {0}}},
+        {"card 0", MKB_WEIGHTS, {EUR, 3, {5, 3, 2}, 9, 0, {0}}},
+        {"card 1,001", MKB_WEIGHTS, {EUR, 3, {5, 3, 2}, 9, 1001, {0}}},
+        {"card 65,537", MKB_WEIGHTS, {EUR, 3, {5, 3, 2}, 9, 65537, {0}}},
+        {"card -1", MKB_WEIGHTS, {EUR, 3, {5, 3, 2}, 9, -1, {0}}},
+        {"a settled total past the count", MKB_WEIGHTS, {EUR, 3, {5, 3, 2}, 9, 1, {[3] = 1}}},
+        {"one below 0 at the last place", MKB_WEIGHTS, {EUR, 3, {5, 3, 2}, 9, 1, {[15] = -1}}},
+        {"a settled total of -1", MKB_NEGATIVE, {EUR, 3, {5, 3, 2}, 9, 1, {0, -1}}},
+        {"a settled total of L + 1", MKB_MAGNITUDE, {EUR, 3, {5, 3, 2}, 9, 1, {0, MKB_L + 1}}},
+        {"a settled total of -(L + 1)", MKB_MAGNITUDE, {EUR, 3, {5, 3, 2}, 9, 1, {0, -MKB_L - 1}}},
+        {"the least settled totals", MKB_MAGNITUDE, {EUR, 3, {5, 3, 2}, 9, 1, {INT64_MIN, INT64_MIN, INT64_MIN}}},
+        {"settled totals and N past L", MKB_MAGNITUDE, {EUR, 3, {5, 3, 2}, 9, 1, {MKB_L - 9, 1}}},
+        {"a sum within L by a negative one", MKB_NEGATIVE, {EUR, 3, {5, 3, 2}, 9, 1, {MKB_L, -9}}},
+        {"a sum past L beside a negative one", MKB_MAGNITUDE, {EUR, 3, {5, 3, 2}, 9, 1, {MKB_L, -8}}},
     };
     for (size_t i = 0; i < sizeof books / sizeof *books; i++) {
         mkb_book b = books[i].book;
         not_moved(books[i].name, mkb_post(b, money(EUR, 2, 1)), books[i].number, b);
         not_moved(books[i].name, mkb_refund(b, money(EUR, 2, 1)), books[i].number, b);
+        not_moved(books[i].name, mkb_card(b, (uint32_t[]){1, 1, 1}, 3), books[i].number, b);
         mkb_totals t = mkb_running_totals(b);
         int ok = t.refusal == books[i].number && !t.blamed;
         for (int k = 0; k < MKB_PARTNERS; k++)

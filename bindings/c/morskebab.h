@@ -68,11 +68,13 @@ typedef struct {
     int32_t year, month, day;
 } mkb_date;
 
-/* a count of 1 to 16, as many weights with a sum of 1 to 10,000 and noughts behind them, and a net total of 0 to L */
+/* a count of 1 to 16, as many weights with a sum of 1 to 10,000 and noughts behind them, a net total of 0 to L, a card number of 1 to 1,000, and as
+ * many settled totals with noughts behind them, which sum to L at most with the net total */
 typedef struct {
     int32_t currency, count;
     uint32_t weights[MKB_PARTNERS];
-    int64_t net;
+    int64_t net, card;
+    int64_t settled[MKB_PARTNERS];
 } mkb_book;
 
 /* the code's letters, without an end; one euro is figures / 10^places units; the currency's own scale */
@@ -211,12 +213,15 @@ uint8_t mkb_share(mkb_amount a, const uint32_t *weights, size_t count, int64_t *
  * nothing; 0, or 6, 9, 11 */
 uint8_t mkb_vouchers(int64_t vouchers, const uint32_t *weights, size_t count, uint32_t *out, size_t room);
 
-/* a book with these weights and a net total of 0: refusals 4, 9 */
+/* a book with these weights and a net total of 0, on card 1 with nothing settled: refusals 4, 9 */
 mkb_opened mkb_open(int64_t currency, const uint32_t *weights, size_t count);
 /* the next book and what each partner is paid: refusals 2, 3, 4, 5, 9, 10, 13 */
 mkb_moved mkb_post(mkb_book book, mkb_amount a);
 /* the next book and what is taken back from each partner: refusals 2, 3, 4, 5, 9, 10, 12 */
 mkb_moved mkb_refund(mkb_book book, mkb_amount a);
+/* the book on its next card, with these weights for the same count: the running totals are added to the settled ones, the net total is 0, and the
+ * payouts are sixteen noughts: refusals 3, 4, 9, 10 */
+mkb_moved mkb_card(mkb_book book, const uint32_t *weights, size_t count);
 /* each partner's running total at the book's net total: refusals 3, 4, 9, 10 */
 mkb_totals mkb_running_totals(mkb_book book);
 /* the movements in turn, each as mkb_refund where `refunds` has true, else as mkb_post, of its coefficient in the book's currency at its own digits:

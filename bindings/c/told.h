@@ -26,7 +26,8 @@ static inline int same_amount(mkb_amount a, mkb_amount b)
 
 static inline int same_book(const mkb_book *a, const mkb_book *b)
 {
-    return a->currency == b->currency && a->count == b->count && !memcmp(a->weights, b->weights, sizeof a->weights) && a->net == b->net;
+    return a->currency == b->currency && a->count == b->count && !memcmp(a->weights, b->weights, sizeof a->weights) && a->net == b->net &&
+           a->card == b->card && !memcmp(a->settled, b->settled, sizeof a->settled);
 }
 
 /* an answer that is an amount, or the refusal and the date blamed */

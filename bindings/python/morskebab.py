@@ -299,11 +299,14 @@ class Ran(NamedTuple):
 
 @dataclass(frozen=True)
 class Book:
-    """A share book: a currency, the weights of its partners and its net total. Each call answers with the next book."""
+    """A share book: a currency, the weights of its partners and its net total, its card number, and what each partner had on the cards before.
+    Each call answers with the next book."""
 
     currency: int
     weights: tuple[int, ...]
     net: int
+    card: int = 1
+    settled: tuple[int, ...] = ()
 
     def __post_init__(self) -> None:
         lent, count = as_list(c_uint32, "weights", self.weights)
@@ -312,13 +315,19 @@ class Book:
         object.__setattr__(self, "currency", whole(c_int32, "currency", self.currency))
         object.__setattr__(self, "weights", tuple(lent[:count]))
         object.__setattr__(self, "net", whole(c_int64, "net", self.net))
+        object.__setattr__(self, "card", whole(c_int64, "card", self.card))
+        past, places = as_list(c_int64, "settled", self.settled)
+        if places > PARTNERS:
+            raise OverflowError(f"settled: {places} of them, and a book has {PARTNERS} places")
+        # noughts behind them up to the count, so that equal books compare equal
+        object.__setattr__(self, "settled", tuple(past[:places]) + (0,) * (count - places))
 
     def _c(self) -> CBook:
-        return CBook(self.currency, len(self.weights), (c_uint32 * PARTNERS)(*self.weights), self.net)
+        return CBook(self.currency, len(self.weights), (c_uint32 * PARTNERS)(*self.weights), self.net, self.card, (c_int64 * PARTNERS)(*self.settled))
 
     @classmethod
     def _of(cls, c: Any) -> Book:
-        return cls(c.currency, tuple(c.weights[: c.count]), c.net)
+        return cls(c.currency, tuple(c.weights[: c.count]), c.net, c.card, tuple(c.settled[: c.count]))
 
     @classmethod
     def open(cls, currency: int, weights: Sequence[int]) -> Book:
@@ -337,6 +346,12 @@ class Book:
     def refund(self, amount: Amount) -> Moved:
         """Takes back the difference of the running totals at N and N - A: refusals 2, 3, 4, 5, 9, 10, 12."""
         return self._moved(_library.mkb_refund, amount)
+
+    def new_card(self, weights: Sequence[int]) -> Book:
+        """The book on its next card, with these weights for the same count: the running totals are settled and the net total is 0; refusals 3, 4,
+        9, 10."""
+        lent, count = as_list(c_uint32, "weights", weights)
+        return Book._of(_accepted(_library.mkb_card(self._c(), lent, count)).book)
 
     def running_totals(self) -> tuple[int, ...]:
         """Each partner's running total at the net total: refusals 3, 4, 9, 10."""

@@ -18,7 +18,7 @@ class CDate(Structure):
 
 
 class CBook(Structure):
-    _fields_ = [("currency", c_int32), ("count", c_int32), ("weights", c_uint32 * PARTNERS), ("net", c_int64)]
+    _fields_ = [("currency", c_int32), ("count", c_int32), ("weights", c_uint32 * PARTNERS), ("net", c_int64), ("card", c_int64), ("settled", c_int64 * PARTNERS)]
 
 
 class CColumns(Structure):
@@ -79,6 +79,7 @@ FUNCTIONS = {
     "mkb_open": (COpened, c_int64, *_lent(c_uint32)),
     "mkb_post": (CMoved, CBook, CAmount),
     "mkb_refund": (CMoved, CBook, CAmount),
+    "mkb_card": (CMoved, CBook, *_lent(c_uint32)),
     "mkb_running_totals": (CTotals, CBook),
     "mkb_write_statement": (CEnd, c_int64, *_lent(c_uint16), *_lent(c_int64), *_lent(c_uint8), c_int64),
     "mkb_check_statement": (CStatement, *_lent(c_uint8)),

@@ -304,6 +304,29 @@ def books():
     named(TypeError, "refunds must be", lambda: book.run({True}, [1]))
 
 
+def cards():
+    book = Book(EUR, (5, 3, 2), 9).new_card([1, 1, 1])
+    same(book, Book(EUR, (1, 1, 1), 0, 2, (5, 3, 1)))
+    refused(12, lambda: book.refund(euros(1)))
+    same(book.post(euros(2)), Moved(Book(EUR, (1, 1, 1), 2, 2, (5, 3, 1)), (1, 1, 0)))
+    same(book.run([False], [2]).book.settled, (5, 3, 1))
+    refused(9, lambda: book.new_card([1, 1]))
+    refused(9, lambda: book.new_card([0, 0, 0]))
+    refused(9, lambda: book.new_card([10000, 1, 0]))
+    same(Book(EUR, (5, 3, 2), 0, 999).new_card([1, 1, 1]).card, 1000)
+    refused(9, lambda: Book(EUR, (5, 3, 2), 0, 1000).new_card([1, 1, 1]))
+    for card in (0, 1001, 65537, -1):
+        refused(9, lambda: Book(EUR, (5, 3, 2), 0, card).running_totals())
+    refused(9, lambda: Book(EUR, (5, 3, 2), 0, 1, (0, 0, 0, 1)).post(euros(1)))
+    refused(10, lambda: Book(EUR, (5, 3, 2), 0, 1, (0, -1)).post(euros(1)))
+    refused(3, lambda: Book(EUR, (5, 3, 2), 0, 1, (0, L + 1)).post(euros(1)))
+    refused(3, lambda: Book(EUR, (5, 3, 2), 10, 1, (L - 9,)).new_card([1, 1, 1]))
+    same(Book(EUR, (5, 3, 2), 9, 1, (L - 10,)).post(euros(1)).book.net, 10)
+    refused(13, lambda: Book(EUR, (5, 3, 2), 9, 1, (L - 10,)).post(euros(2)))
+    named(OverflowError, "settled: 17", lambda: Book(EUR, (1,), 0, 1, (0,) * 17))
+    named(TypeError, "weights must be", lambda: book.new_card({1}))
+
+
 def broken_books():
     """A given book that is broken in one field has document 01's number in every call on it, and comes back field for field."""
     whole = (5, 3, 2)
@@ -312,7 +335,7 @@ def broken_books():
         (9, EUR, 2, whole, 9), (9, EUR, 3, (5,) + (0,) * 14 + (1,), 9), (9, EUR, 3, (), 9), (9, EUR, 3, (9998, 2, 1), 9),
         (10, EUR, 3, whole, -1), (3, EUR, 3, whole, L + 1), (3, EUR, 3, whole, -L - 1),
     ):
-        book = CBook(currency, count, (c_uint32 * PARTNERS)(*weights), net)
+        book = CBook(currency, count, (c_uint32 * PARTNERS)(*weights), net, 1)
         for call in (morskebab._library.mkb_post, morskebab._library.mkb_refund):
             r = call(book, CAmount(EUR, 2, 1))
             same((r.refusal, r.blamed, bytes(r.book), any(r.payouts)), (number, 0, bytes(book), False))
@@ -376,7 +399,7 @@ def versions():
 
 
 def main():
-    for part in (modes, amounts, past_limits, texts_and_decimals, fields, lines, euro_steps, days, tables, prices, rows_of_doubles, shares, handed_out, books, broken_books, statements, processes, versions):
+    for part in (modes, amounts, past_limits, texts_and_decimals, fields, lines, euro_steps, days, tables, prices, rows_of_doubles, shares, handed_out, books, cards, broken_books, statements, processes, versions):
         part()
     examples = doctest.testmod(morskebab)
     assert not examples.failed

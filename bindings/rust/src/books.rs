@@ -1,7 +1,8 @@
 //! The share book.
 use crate::{ffi, Amount, Currency, Refusal};
 
-/// A currency, a count of 1 to 16, as many weights with a sum of 1 to 10,000 and noughts behind them, and a net total of 0 to L.
+/// A currency, a count of 1 to 16, as many weights with a sum of 1 to 10,000 and noughts behind them, a net total of 0 to L, a card number of 1 to
+/// 1,000, and as many settled totals with noughts behind them, which sum to L at most with the net total.
 /// Any values may stand in it: every call checks them all, and answers with the next book.
 #[derive(Clone, Copy, Debug, PartialEq, Eq)]
 pub struct Book {
@@ -9,9 +10,11 @@ pub struct Book {
     pub count: u8,
     pub weights: [u32; 16],
     pub net: i64,
+    pub card: u16,
+    pub settled: [i64; 16],
 }
 
-/// The next book, and what each partner is paid, or what a refund takes back from each.
+/// The next book, and what each partner is paid, or what a refund takes back from each; a new card pays noughts.
 #[derive(Clone, Copy, Debug, PartialEq, Eq)]
 pub struct Moved {
     pub book: Book,
@@ -20,13 +23,14 @@ pub struct Moved {
 
 impl From<Book> for ffi::Book {
     fn from(b: Book) -> Self {
-        ffi::Book { currency: b.currency.0.into(), count: b.count.into(), weights: b.weights, net: b.net }
+        ffi::Book { currency: b.currency.0.into(), count: b.count.into(), weights: b.weights, net: b.net, card: b.card.into(), settled: b.settled }
     }
 }
 
 impl From<ffi::Book> for Book {
     fn from(b: ffi::Book) -> Self {
-        Book { currency: Currency(ffi::small(b.currency)), count: ffi::small(b.count), weights: b.weights, net: b.net }
+        let (currency, count) = (Currency(ffi::small(b.currency)), ffi::small(b.count));
+        Book { currency, count, weights: b.weights, net: b.net, card: b.card as u16, settled: b.settled }
     }
 }
 
@@ -52,6 +56,12 @@ impl Book {
     /// Takes back the difference of the running totals at N and N - A: refusals 2, 3, 4, 5, 9, 10, 12. Refused, the book is as it was.
     pub fn refund(self, amount: Amount) -> Result<Moved, Refusal> {
         unsafe { ffi::mkb_refund(self.into(), amount.into()) }.into()
+    }
+
+    /// The book on its next card, with these weights for the same count: the running totals are added to the settled ones, and the net total is 0.
+    /// Refusals 3, 4, 9, 10. Refused, the book is as it was.
+    pub fn card(self, weights: &[u32]) -> Result<Moved, Refusal> {
+        unsafe { ffi::mkb_card(self.into(), weights.as_ptr(), weights.len()) }.into()
     }
 
     /// Each partner's running total at the net total: refusals 3, 4, 9, 10.

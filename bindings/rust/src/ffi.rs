@@ -23,6 +23,8 @@ pub struct Book {
     pub count: i32,
     pub weights: [u32; 16],
     pub net: i64,
+    pub card: i64,
+    pub settled: [i64; 16],
 }
 
 #[repr(C)]
@@ -166,6 +168,7 @@ extern "C" {
     pub fn mkb_open(currency: i64, weights: *const u32, count: usize) -> Opened;
     pub fn mkb_post(book: Book, a: Amount) -> Moved;
     pub fn mkb_refund(book: Book, a: Amount) -> Moved;
+    pub fn mkb_card(book: Book, weights: *const u32, count: usize) -> Moved;
     pub fn mkb_running_totals(book: Book) -> Totals;
     pub fn mkb_write_statement(
         currency: i64,

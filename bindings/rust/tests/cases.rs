@@ -259,6 +259,26 @@ fn share_book() {
     assert_eq!(Book::open(Currency(21), &[]), Err(Refusal::Unknown));
 }
 
+#[test]
+fn new_card() {
+    let settled = |first: [i64; 3]| {
+        let mut all = [0; 16];
+        all[..3].copy_from_slice(&first);
+        all
+    };
+    let next = at(9).card(&[1, 1, 1]).expect("the new weights keep their rule");
+    assert_eq!(next.payouts, [0; 16]);
+    assert_eq!((next.book.card, next.book.net, next.book.settled), (2, 0, settled([5, 3, 1])));
+    assert_eq!(next.book.refund(euros(1)), Err(Refusal::Refund));
+    assert_eq!(at(9).card(&[1, 1]), Err(Refusal::Weights));
+    assert_eq!(at(9).card(&[10_000, 1, 0]), Err(Refusal::Weights));
+    assert_eq!(Book { card: 999, ..at(9) }.card(&[1, 1, 1]).map(|m| m.book.card), Ok(1_000));
+    assert_eq!(Book { card: 1_000, ..at(9) }.card(&[1, 1, 1]), Err(Refusal::Weights));
+    let full = Book { settled: settled([Amount::L - 10, 0, 0]), ..at(9) };
+    assert_eq!(full.post(euros(1)).map(|m| m.book.net), Ok(10));
+    assert_eq!(full.post(euros(2)), Err(Refusal::Limit));
+}
+
 /// A given book that is broken in one field has document 01's number in every call on it.
 #[test]
 fn broken_books() {
@@ -282,10 +302,17 @@ fn broken_books() {
         (Book { net: -1, ..full }, Refusal::Negative),
         (Book { net: Amount::L + 1, ..full }, Refusal::Magnitude),
         (Book { net: -Amount::L - 1, ..full }, Refusal::Magnitude),
+        (Book { card: 0, ..full }, Refusal::Weights),
+        (Book { card: 1_001, ..full }, Refusal::Weights),
+        (Book { settled: [0, 0, 0, 1, 0, 0, 0, 0, 0, 0, 0, 0, 0, 0, 0, 0], ..full }, Refusal::Weights),
+        (Book { settled: [-1, 0, 0, 0, 0, 0, 0, 0, 0, 0, 0, 0, 0, 0, 0, 0], ..full }, Refusal::Negative),
+        (Book { settled: [i64::MIN; 16], ..full }, Refusal::Magnitude),
+        (Book { settled: [Amount::L - 8, 0, 0, 0, 0, 0, 0, 0, 0, 0, 0, 0, 0, 0, 0, 0], ..full }, Refusal::Magnitude),
     ] {
         assert_eq!(book.post(euros(1)), Err(refusal));
         assert_eq!(book.refund(euros(1)), Err(refusal));
         assert_eq!(book.running_totals(), Err(refusal));
+        assert_eq!(book.card(&[1, 1, 1]), Err(refusal));
         let (mut paid, mut numbers) = ([[9; 16]], [9]);
         assert_eq!(book.run(&[false], &[1], &mut paid, &mut numbers), Err(refusal));
         assert_eq!((book.run(&[], &[], &mut [], &mut []), paid, numbers), (Err(refusal), [[9; 16]], [9]));

@@ -48,7 +48,7 @@ pub fn given_book(given: MkbBook) -> Book
         count: pass_u8(from_field(given.count)),
         weights,
         net: given.net,
-        card: pass_u16(from_field(given.card)),
+        card: pass_u16(given.card),
         settled,
     }
 }

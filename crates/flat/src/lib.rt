@@ -53,13 +53,14 @@ pub struct MkbDate {
     pub day: i32,
 }
 
+// The card's number has as many bytes as a total, so that no place between the fields is unused.
 #[repr(C)]
 pub struct MkbBook {
     pub currency: i32,
     pub count: i32,
     pub weights: [u32; Book::PARTNERS],
     pub net: i64,
-    pub card: i32,
+    pub card: i64,
     pub settled: [i64; Book::PARTNERS],
 }
 

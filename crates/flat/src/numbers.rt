@@ -48,10 +48,10 @@ pub(crate) fn from_field(n: i32) -> i64
     n as i64
 }
 
-pub(crate) fn to_wide_field(n: u16) -> i32
+pub(crate) fn to_wide_field(n: u16) -> i64
     ensures { λ r. ⌜ r ≡ pos n ⌝ }
 {
-    n as i32
+    n as i64
 }
 
 pub(crate) fn to_field(n: u8) -> i32

@@ -26,8 +26,8 @@ returns c =
     let count : ℤ = c .before .before .to-field2 .result in
     let fits-count : SFits w32 count = search needs in
     let card : ℤ = c .before .to-wide-field .result in
-    let fits-card : SFits w32 card = search needs in
-    simp (toZ-ofZ w32 currency fits-currency, toZ-ofZ w32 count fits-count, toZ-ofZ w32 card fits-card, toZ-ofZ w64 n fits)
+    let fits-card : SFits w64 card = search needs in
+    simp (toZ-ofZ w32 currency fits-currency, toZ-ofZ w32 count fits-count, toZ-ofZ w64 card fits-card, toZ-ofZ w64 n fits)
     (simp (c .before .before .before .to-field .ensures, c .before .before .to-field2 .ensures, c .before .to-wide-field .ensures))
 
 pub flat-book-spec : {M : Type 1} → statement M
