@@ -30,18 +30,18 @@ enum mkb_refusal {
     MKB_ACCEPTED = 0,
     MKB_MODE = 1,      /* the mode isn't 0 to 6 */
     MKB_SCALE = 2,     /* a scale is over 6, or (conversions, the book) isn't the known currency's own digits, a euro step's decimals aren't 3 to 6, or (doubles) is over 3 */
-    MKB_MAGNITUDE = 3, /* a given coefficient or net total is over L, or a factor's magnitude is over 10^18 */
+    MKB_MAGNITUDE = 3, /* a given coefficient, net total or settled total is over L, or the settled totals and the net total in sum, or a factor's magnitude is over 10^18 */
     MKB_UNKNOWN = 4,   /* a currency number is over 20 */
     MKB_DIFFER = 5,    /* two currencies that must agree differ */
     MKB_RATE = 6,      /* a plain divisor isn't 1 to 10^18, a rate, a number of vouchers or of periods is outside its limits, or the basis isn't 0 to 3 */
     MKB_DATE = 7,      /* a date doesn't exist or its year isn't 1900 to 2199 */
     MKB_DAYS = 8,      /* the end is before the start, or the day count is over 366 */
-    MKB_WEIGHTS = 9,   /* weights break their rule, lists differ in length, or a statement's place is over 15 */
-    MKB_NEGATIVE = 10, /* a posting, a refund, a table's principal or a given net total is negative */
+    MKB_WEIGHTS = 9,   /* weights, a card number or settled totals past the count break their rule, lists differ in length, or a statement's place is over 15 */
+    MKB_NEGATIVE = 10, /* a posting, a refund, a table's principal, a given net total or a settled total is negative */
     MKB_ROOM = 11,     /* the lent output is too short */
     MKB_REFUND = 12,   /* a refund is greater than the net total */
-    MKB_LIMIT = 13,    /* the result, the euro step, a row of a table or the new net total is over L, or a plain quotient over 10^18 */
-    MKB_MALFORMED = 14, /* the bytes end in no statement file */
+    MKB_LIMIT = 13,    /* the result, the euro step, a row of a table or the new net total, the settled totals added, is over L, or a plain quotient over 10^18 */
+    MKB_MALFORMED = 14, /* a text isn't of its form, or the bytes end in no statement file */
     MKB_NO_NET = 15,   /* no net has the gross */
     MKB_NO_NUMBER = 16 /* a double is no number or infinite */
 };

@@ -15,7 +15,7 @@ pub enum Refusal {
     Mode,
     /// 2: a scale is over 6, or (conversions, the book) isn't the known currency's own digits, or (doubles) is over 3
     Scale,
-    /// 3: a given coefficient or net total is over L, or a factor's magnitude is over 10^18
+    /// 3: a given coefficient, net total or settled total is over L, or the settled totals and the net total in sum, or a factor's magnitude is over 10^18
     Magnitude,
     /// 4: a currency number is over 20
     Unknown,
@@ -27,17 +27,17 @@ pub enum Refusal {
     Date(Blamed),
     /// 8: the end is before the start, or the day count is over 366
     Days,
-    /// 9: weights break their rule, lists differ in length, or a statement's place is over 15
+    /// 9: weights, a card number or settled totals past the count break their rule, lists differ in length, or a statement's place is over 15
     Weights,
-    /// 10: a posting, a refund, a table's principal or a given net total is negative
+    /// 10: a posting, a refund, a table's principal, a given net total or a settled total is negative
     Negative,
     /// 11: the lent output is too short
     Room,
     /// 12: a refund is greater than the net total
     Refund,
-    /// 13: the result, the euro step, a row of a table or the new net total is over L, or a plain quotient over 10^18
+    /// 13: the result, the euro step, a row of a table or the new net total, the settled totals added, is over L, or a plain quotient over 10^18
     Limit,
-    /// 14: the bytes end in no statement file
+    /// 14: a text isn't of its form, or the bytes end in no statement file
     Malformed,
     /// 15: no net has the gross
     NoNet,
@@ -73,19 +73,19 @@ impl Refusal {
         match self {
             Refusal::Mode => "the mode isn't 0 to 6",
             Refusal::Scale => "a scale is over 6, or isn't the currency's own digits, or (doubles) is over 3",
-            Refusal::Magnitude => "a given coefficient or net total is over L, or a factor's magnitude over 10^18",
+            Refusal::Magnitude => "a given coefficient, net total or settled total is over L, or the settled totals and the net total in sum, or a factor's magnitude over 10^18",
             Refusal::Unknown => "a currency number is over 20",
             Refusal::Differ => "two currencies that must agree differ",
             Refusal::Rate => "a divisor, a rate, a number of vouchers or of periods or the basis is outside its limits",
             Refusal::Date(Blamed::First) => "a date doesn't exist or its year isn't 1900 to 2199 (the first date)",
             Refusal::Date(Blamed::Second) => "a date doesn't exist or its year isn't 1900 to 2199 (the second date)",
             Refusal::Days => "the end is before the start, or the day count is over 366",
-            Refusal::Weights => "weights break their rule, lists differ in length, or a statement's place is over 15",
-            Refusal::Negative => "a posting, a refund, a table's principal or a given net total is negative",
+            Refusal::Weights => "weights, a card number or settled totals past the count break their rule, lists differ in length, or a statement's place is over 15",
+            Refusal::Negative => "a posting, a refund, a table's principal, a given net total or a settled total is negative",
             Refusal::Room => "the lent output is too short",
             Refusal::Refund => "a refund is greater than the net total",
-            Refusal::Limit => "the result, the euro step, a row of a table or the new net total is over L, or a plain quotient over 10^18",
-            Refusal::Malformed => "the bytes end in no statement file",
+            Refusal::Limit => "the result, the euro step, a row of a table or the new net total, the settled totals added, is over L, or a plain quotient over 10^18",
+            Refusal::Malformed => "a text isn't of its form, or the bytes end in no statement file",
             Refusal::NoNet => "no net has the gross",
             Refusal::NoNumber => "a double is no number or infinite",
         }
