@@ -1,12 +1,13 @@
--- The leaf's capped quotient serves the rows as the rounded quotient itself does: within the limits it is over 10^18 where that is, and it is the
+-- The quotient that is found, the leaf's capped one where the second factor isn't 1, serves the rows as the rounded quotient itself does: within the limits it is over 10^18 where that is, and it is the
 -- same where no row holds; outside them a row in front holds. Assumes nothing.
 use mathlib.Core.Path.{_≡_, refl, sym, _∙_, ap}
 use mathlib.Core.Bool.{Bool, true, false}
 use mathlib.Core.List.{[], _∷_}
 use Prim.Native.Nat.{ℕ, _+_, _*_, _<_, _≤_}
-use native.Mathlib.Decide.{decLt}
+use native.Mathlib.Decide.{ℕ-discrete, decLt}
+use native.Mathlib.Nat.{mul-one}
 use native.Mathlib.Omega.{arith}
-use borrow.Author.Tests.{lt-ltb, le-ltb, ltb-false}
+use borrow.Author.Tests.{lt-ltb, ltb-false, eq-eqb, ne-eqb}
 use lib.Dec.{ltb}
 use lib.IntN.{ℤ}
 use Rattle.refusal.specs.declared.Checked.the-variants.{Passed}
@@ -19,6 +20,7 @@ use Rattle.division.specs.Division.{most}
 use Rattle.rounding.specs.declared.Rule.{Rule}
 use Rattle.rounding.specs.Leaf.{roundedMagnitude}
 use Rattle.rounding.specs.Product.{capped, roundedProduct}
+use Rattle.rounding.specs.Found.{foundQuotient}
 use Rattle.rounding.specs.Plain.{limit, plainRows}
 use Rattle.rounding.proofs.Capped.{capped-is, product-within}
 
@@ -73,26 +75,47 @@ behind-clear false false false true p q value h = refl
 behind-clear false false false false p q value h = ap (λ (t : Bool). firstRow (row Limit t ∷ []) value) (h refl refl refl refl)
 
 module _ (rule : Rule) (sign : Bool) (a b d : ℕ) where
+  -- what is found is the rounded magnitude, or the leaf's of the product
+  found-by-one : b ≡ 1 → foundQuotient rule sign a b d ≡ roundedMagnitude rule sign (a * b) d
+  unfolding foundQuotient
+  found-by-one e = rw (eq-eqb b 1 e) (ap (λ (n : ℕ). roundedMagnitude rule sign n d) (rw e (sym (mul-one a))))
+
+  found-else : (b ≡ 1 → ⊥) → foundQuotient rule sign a b d ≡ roundedProduct rule sign a b d
+  unfolding foundQuotient
+  found-else f = rw (ne-eqb b 1 f)
+
+  -- where the factors and the divisor are within their limits, it is over 10^18 where the rounded quotient is
+  over-alike : a ≤ limit → b ≤ limit → 0 < d → d ≤ limit
+      → ltb limit (foundQuotient rule sign a b d) ≡ ltb limit (roundedMagnitude rule sign (a * b) d)
+  over-alike one two some most = go (ℕ-discrete b 1)
+    where
+      go : Dec (b ≡ 1) → ltb limit (foundQuotient rule sign a b d) ≡ ltb limit (roundedMagnitude rule sign (a * b) d)
+      go (yes e) = ap (ltb limit) (found-by-one e)
+      go (no f) =
+          ap (ltb limit) (found-else f ∙ product-within rule sign a b d one two some most) ∙ capped-limit (roundedMagnitude rule sign (a * b) d)
+
   pub same-rows : (value : Said ℤ)
-      → firstRow (plainRows a b d (roundedProduct rule sign a b d)) value
+      → firstRow (plainRows a b d (foundQuotient rule sign a b d)) value
       ≡ firstRow (plainRows a b d (roundedMagnitude rule sign (a * b) d)) value
   unfolding plainRows
   same-rows value =
-      let m = roundedMagnitude rule sign (a * b) d in
-      behind-clear (ltb limit a) (ltb limit b) (ltb d 1) (ltb limit d) (ltb limit (roundedProduct rule sign a b d)) (ltb limit m) value
-      (λ one two some most. ap (ltb limit) (product-within rule sign a b d (ltb-false limit a one) (ltb-false limit b two) (ltb-false d 1 some) (ltb-false limit d most))
-      ∙ capped-limit m)
+      behind-clear (ltb limit a) (ltb limit b) (ltb d 1) (ltb limit d) (ltb limit (foundQuotient rule sign a b d))
+      (ltb limit (roundedMagnitude rule sign (a * b) d)) value
+      (λ one two some most. over-alike (ltb-false limit a one) (ltb-false limit b two) (ltb-false d 1 some) (ltb-false limit d most))
 
-  pub same-quotient : checkOf (plainRows a b d (roundedProduct rule sign a b d)) ≡ Passed → roundedProduct rule sign a b d ≡ roundedMagnitude rule sign (a * b) d
-  same-quotient e =
-      let m = roundedMagnitude rule sign (a * b) d in
-      let l = limited a b d (roundedProduct rule sign a b d) e in
-      let capped-so = product-within rule sign a b d (l .first) (l .second) (l .some) (l .divisor) in
-      capped-so ∙ uncapped m (omega (arith, l .within, capped-so))
+  pub same-quotient : checkOf (plainRows a b d (foundQuotient rule sign a b d)) ≡ Passed → foundQuotient rule sign a b d ≡ roundedMagnitude rule sign (a * b) d
+  same-quotient passed = go (ℕ-discrete b 1)
+    where
+      go : Dec (b ≡ 1) → foundQuotient rule sign a b d ≡ roundedMagnitude rule sign (a * b) d
+      go (yes e) = found-by-one e
+      go (no f) =
+          let l = limited a b d (foundQuotient rule sign a b d) passed in
+          let capped-so = found-else f ∙ product-within rule sign a b d (l .first) (l .second) (l .some) (l .divisor) in
+          capped-so ∙ uncapped (roundedMagnitude rule sign (a * b) d) (omega (arith, l .within, capped-so))
 
   -- what the rows let pass, an i64 holds
-  pub held-quotient : checkOf (plainRows a b d (roundedProduct rule sign a b d)) ≡ Passed
-      → heldSigned sign (roundedProduct rule sign a b d) ≡ signedOf sign (roundedMagnitude rule sign (a * b) d)
-  held-quotient e =
-      let l = limited a b d (roundedProduct rule sign a b d) e in
-      held-within sign (roundedProduct rule sign a b d) (omega (arith, l .within)) ∙ ap (signedOf sign) (same-quotient e)
+  pub held-quotient : checkOf (plainRows a b d (foundQuotient rule sign a b d)) ≡ Passed
+      → heldSigned sign (foundQuotient rule sign a b d) ≡ signedOf sign (roundedMagnitude rule sign (a * b) d)
+  held-quotient passed =
+      let l = limited a b d (foundQuotient rule sign a b d) passed in
+      held-within sign (foundQuotient rule sign a b d) (omega (arith, l .within)) ∙ ap (signedOf sign) (same-quotient passed)

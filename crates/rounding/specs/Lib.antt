@@ -2,3 +2,4 @@ pub mod Modes
 pub mod Leaf
 pub mod Product
 pub mod Plain
+pub mod Found

@@ -2,6 +2,7 @@
 use crate::Choice;
 use crate::Quotient;
 use crate::Rule;
+use crate::leaf::round;
 use crate::modes::rule_of;
 use crate::product::round_product;
 use division::Division;
@@ -16,6 +17,7 @@ ghost use Prim.Native.Nat.{_*_};
 ghost use Rattle.refusal.specs.Rows.{checkOf};
 ghost use Rattle.whole.specs.Whole.{signedOf};
 ghost use Rattle.rounding.specs.Leaf.{roundedMagnitude};
+ghost use Rattle.rounding.specs.Found.{foundQuotient};
 ghost use Rattle.rounding.specs.Plain.{meansQuotient, plainRows, behindMode, plainSaid};
 
 // The rows behind row 1: the factors' magnitudes, the divisor and the rounded quotient's magnitude against 10^18.
@@ -47,13 +49,23 @@ fn sign_of_product(a: bool, b: bool) -> bool
     if a { !b } else { b }
 }
 
+// The rounded magnitude: by the factor 1 the quotient of one number serves.
+fn quotient(rule: Rule, negative: bool, a: u64, b: u64, d: u64) -> u64
+    ensures { λ r. ⌜ r ≡ foundQuotient rule negative a b d ⌝ }
+{
+    if b == 1 {
+        return round(rule, negative, a, d);
+    }
+    round_product(rule, negative, a, b, d)
+}
+
 fn by_rule(rule: Rule, negative: bool, a: u64, b: u64, d: u64) -> Quotient
     ensures { λ r. ⌜ meansQuotient r ≡ behindMode a b d (signedOf negative (roundedMagnitude rule negative (a * b) d)) ⌝ }
 {
-    let quotient = round_product(rule, negative, a, b, d);
-    match check(a, b, d, quotient) {
+    let found = quotient(rule, negative, a, b, d);
+    match check(a, b, d, found) {
         Checked::Refused(refusal) => Quotient::Refused(refusal),
-        Checked::Passed => Quotient::Value(signed(negative, quotient)),
+        Checked::Passed => Quotient::Value(signed(negative, found)),
     }
 }
 

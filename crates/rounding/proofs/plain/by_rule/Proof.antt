@@ -8,14 +8,14 @@ use Rattle.refusal.proofs.Check.{passed, refused}
 use Rattle.whole.specs.Whole.{magnitudeOf, signedOf, heldSigned}
 use Rattle.whole.proofs.Laws.{magnitude-signed, read-back}
 use Rattle.rounding.specs.Leaf.{roundedMagnitude}
-use Rattle.rounding.specs.Product.{roundedProduct}
+use Rattle.rounding.specs.Found.{foundQuotient}
 use Rattle.rounding.specs.Plain.{plainRows, behindMode}
 use Rattle.rounding.proofs.PlainRows.{same-rows, held-quotient}
 use Rattle.rounding.proofs.plain.by_rule.Statement.{statement}
 use Rattle.rounding.proofs.plain.by_rule.Tie as tie
 
-round-product-requires : tie.Need-round-product-requires
-round-product-requires c κs = search needs
+quotient-requires : tie.Need-quotient-requires
+quotient-requires c κs = search needs
 
 check-requires : tie.Need-check-requires
 check-requires c κs = search needs
@@ -32,16 +32,16 @@ signed-requires c κs = search needs
 -- the rows that `check` was asked
 told : (c : tie.After-check)
     → let a = c .before .before .args in
-    c .check .result ≡ checkOf (plainRows (a .a) (a .b) (a .d) (roundedProduct (a .rule) (a .negative) (a .a) (a .b) (a .d)))
+    c .check .result ≡ checkOf (plainRows (a .a) (a .b) (a .d) (foundQuotient (a .rule) (a .negative) (a .a) (a .b) (a .d)))
 told c =
     let a = c .before .before .args in
-    c .check .ensures ∙ ap (λ (q : ℕ). checkOf (plainRows (a .a) (a .b) (a .d) q)) (c .before .round-product .ensures)
+    c .check .ensures ∙ ap (λ (q : ℕ). checkOf (plainRows (a .a) (a .b) (a .d) q)) (c .before .quotient .ensures)
 
 -- and what they say is what the rounded quotient's own rows do
 said : (c : tie.After-check)
     → let a = c .before .before .args in
     let q = signedOf (a .negative) (roundedMagnitude (a .rule) (a .negative) (a .a * a .b) (a .d)) in
-    firstRow (plainRows (a .a) (a .b) (a .d) (roundedProduct (a .rule) (a .negative) (a .a) (a .b) (a .d))) (gives q) ≡ behindMode (a .a) (a .b) (a .d) q
+    firstRow (plainRows (a .a) (a .b) (a .d) (foundQuotient (a .rule) (a .negative) (a .a) (a .b) (a .d))) (gives q) ≡ behindMode (a .a) (a .b) (a .d) q
 said c =
     let a = c .before .before .args in
     let m = roundedMagnitude (a .rule) (a .negative) (a .a * a .b) (a .d) in
@@ -55,7 +55,7 @@ returns c =
     let a = k .before .before .args in
     let q = signedOf (a .negative) (roundedMagnitude (a .rule) (a .negative) (a .a * a .b) (a .d)) in
     sym
-    (refused (gives q) (plainRows (a .a) (a .b) (a .d) (roundedProduct (a .rule) (a .negative) (a .a) (a .b) (a .d)))
+    (refused (gives q) (plainRows (a .a) (a .b) (a .d) (foundQuotient (a .rule) (a .negative) (a .a) (a .b) (a .d)))
     (c .before .refusal .given .0 .0) (sym (told k) ∙ c .before .refusal .given .1))
     ∙ said k
 
@@ -66,12 +66,12 @@ returns-2 c =
     let q = signedOf (a .negative) (roundedMagnitude (a .rule) (a .negative) (a .a * a .b) (a .d)) in
     let clear = sym (told k) ∙ c .before .enum-told .given .1 in
     ap gives
-    (read-back (c .signed .result) (c .signed .ok) ∙ c .signed .ensures ∙ ap (heldSigned (a .negative)) (k .before .round-product .ensures)
+    (read-back (c .signed .result) (c .signed .ok) ∙ c .signed .ensures ∙ ap (heldSigned (a .negative)) (k .before .quotient .ensures)
     ∙ held-quotient (a .rule) (a .negative) (a .a) (a .b) (a .d) clear)
-    ∙ sym (passed (gives q) (plainRows (a .a) (a .b) (a .d) (roundedProduct (a .rule) (a .negative) (a .a) (a .b) (a .d))) clear)
+    ∙ sym (passed (gives q) (plainRows (a .a) (a .b) (a .d) (foundQuotient (a .rule) (a .negative) (a .a) (a .b) (a .d))) clear)
     ∙ said k
 
 pub by-rule-spec : {M : Type 1} → statement M
 by-rule-spec =
     tie.close
-    (tie.spec round-product-requires check-requires enum-known-refusal enum-told signed-requires returns returns-2)
+    (tie.spec quotient-requires check-requires enum-known-refusal enum-told signed-requires returns returns-2)
