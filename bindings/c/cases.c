@@ -288,28 +288,28 @@ static void cards(void)
 {
     static const uint32_t thirds[3] = {1, 1, 1};
     mkb_book next = {.currency = EUR, .count = 3, .weights = {1, 1, 1}, .net = 0, .card = 2, .settled = {5, 3, 1}};
-    mkb_moved r = mkb_card(book(9), thirds, 3);
+    mkb_moved r = mkb_new_card(book(9), thirds, 3);
     int ok = !r.refusal && !r.blamed && same_book(&r.book, &next);
     for (int i = 0; i < MKB_PARTNERS; i++)
         ok = ok && !r.payouts[i];
     tell(ok, "a new card");
-    not_moved("another count", mkb_card(book(9), thirds, 2), MKB_WEIGHTS, book(9));
-    not_moved("new weights of 0", mkb_card(book(9), (uint32_t[]){0, 0, 0}, 3), MKB_WEIGHTS, book(9));
-    not_moved("new weights of 10,001", mkb_card(book(9), (uint32_t[]){10000, 1, 0}, 3), MKB_WEIGHTS, book(9));
+    not_moved("another count", mkb_new_card(book(9), thirds, 2), MKB_WEIGHTS, book(9));
+    not_moved("new weights of 0", mkb_new_card(book(9), (uint32_t[]){0, 0, 0}, 3), MKB_WEIGHTS, book(9));
+    not_moved("new weights of 10,001", mkb_new_card(book(9), (uint32_t[]){10000, 1, 0}, 3), MKB_WEIGHTS, book(9));
     next.card = 999;
-    r = mkb_card(next, weights, 3);
+    r = mkb_new_card(next, weights, 3);
     tell(!r.refusal && r.book.card == 1000, "card 1,000");
     next.card = 1000;
-    not_moved("card 1,001", mkb_card(next, weights, 3), MKB_WEIGHTS, next);
+    not_moved("card 1,001", mkb_new_card(next, weights, 3), MKB_WEIGHTS, next);
     not_moved("a refund behind the card's opening", mkb_refund(next, money(EUR, 2, 1)), MKB_REFUND, next);
     next.net = MKB_L - 10;
     r = mkb_post(next, money(EUR, 2, 1));
     tell(!r.refusal && r.book.net == MKB_L - 9 && r.book.card == 1000 && r.book.settled[0] == 5, "settled totals and N up to L");
     not_moved("settled totals and N past L", mkb_post(next, money(EUR, 2, 2)), MKB_LIMIT, next);
-    r = mkb_card(r.book, weights, 3);
+    r = mkb_new_card(r.book, weights, 3);
     tell(r.refusal == MKB_WEIGHTS && r.book.net == MKB_L - 9, "a full book on its last card");
     next.card = 7;
-    r = mkb_card(next, weights, 3);
+    r = mkb_new_card(next, weights, 3);
     ok = !r.refusal && !r.book.net && r.book.settled[0] + r.book.settled[1] + r.book.settled[2] == MKB_L - 1;
     tell(ok, "a card keeps the sum");
 }
@@ -358,6 +358,7 @@ int main(void)
     cards();
     limits();
     statements();
+    texts();
     runs();
     if (failed) {
         printf("c face: %d cases passed, %d failed\n", passed, failed);

@@ -18,6 +18,7 @@ SIZE(mkb_split, 56); AT(mkb_split, blamed, 1); AT(mkb_split, net, 8); AT(mkb_spl
 SIZE(mkb_columns, 16); AT(mkb_columns, net, 0); AT(mkb_columns, tax, 8);
 SIZE(mkb_row_answer, 40); AT(mkb_row_answer, blamed, 1); AT(mkb_row_answer, net, 8); AT(mkb_row_answer, tax, 24);
 SIZE(mkb_double, 16); AT(mkb_double, blamed, 1); AT(mkb_double, value, 8);
+SIZE(mkb_written, 16); AT(mkb_written, blamed, 1); AT(mkb_written, length, 8);
 SIZE(mkb_opened, 224); AT(mkb_opened, blamed, 1); AT(mkb_opened, book, 8);
 SIZE(mkb_moved, 352); AT(mkb_moved, blamed, 1); AT(mkb_moved, book, 8); AT(mkb_moved, payouts, 224);
 SIZE(mkb_totals, 136); AT(mkb_totals, blamed, 1); AT(mkb_totals, totals, 8);

@@ -109,7 +109,7 @@ static void broken(void)
         mkb_book b = books[i].book;
         not_moved(books[i].name, mkb_post(b, money(EUR, 2, 1)), books[i].number, b);
         not_moved(books[i].name, mkb_refund(b, money(EUR, 2, 1)), books[i].number, b);
-        not_moved(books[i].name, mkb_card(b, (uint32_t[]){1, 1, 1}, 3), books[i].number, b);
+        not_moved(books[i].name, mkb_new_card(b, (uint32_t[]){1, 1, 1}, 3), books[i].number, b);
         mkb_totals t = mkb_running_totals(b);
         int ok = t.refusal == books[i].number && !t.blamed;
         for (int k = 0; k < MKB_PARTNERS; k++)

@@ -53,8 +53,10 @@ enum mkb_mode { MKB_UP, MKB_DOWN, MKB_CEILING, MKB_FLOOR, MKB_HALF_UP, MKB_HALF_
    (30E/360) */
 enum mkb_basis { MKB_ACTUAL_360, MKB_ACTUAL_365, MKB_THIRTY_360_AMERICAN, MKB_THIRTY_360_EUROPEAN };
 
-/* the largest magnitude of a coefficient, the places of a book, the largest sum of a book's weights */
+/* the largest magnitude of a coefficient, the most characters of a text that is read or written, the places of a book, the largest sum of a book's
+   weights */
 #define MKB_L INT64_C(999999999999999)
+#define MKB_TEXT 20
 #define MKB_PARTNERS 16
 #define MKB_WEIGHT_SUM 10000
 
@@ -125,6 +127,11 @@ typedef struct {
 
 typedef struct {
     uint8_t refusal, blamed;
+    uint64_t length;
+} mkb_written;
+
+typedef struct {
+    uint8_t refusal, blamed;
     mkb_book book;
 } mkb_opened;
 
@@ -176,6 +183,15 @@ mkb_amount_answer mkb_negate(mkb_amount a);
 /* exact to a greater scale, rounded by the mode to a smaller one: refusals 1, 2, 3, 4, 13 */
 mkb_amount_answer mkb_rescale(mkb_amount a, int64_t scale, int64_t mode);
 
+/* the amount that an ASCII text of the currency is: an optional minus, digits, optionally a point with 1 to 6 digits, which are the scale; no leading zeros
+ * but a single 0 before the point, no minus on zero, at most 20 characters: refusals 4, 14, 13 */
+mkb_amount_answer mkb_read(int64_t currency, const uint8_t *text, size_t length);
+/* the amount's only text into the first places of out, without an end, and its length, at most MKB_TEXT; the other places untouched; a refusal writes
+ * nothing: refusals 2, 3, 4, 11 */
+mkb_written mkb_write(mkb_amount a, uint8_t *out, size_t room);
+/* the number of the currency with this code of three capitals, and 255 where the table has none */
+uint8_t mkb_currency_of(const uint8_t *code, size_t length);
+
 /* the amount in the currency `to`, by Council Regulation (EC) No 1103/97, articles 4 and 5: refusals 2, 3, 4, 13 */
 mkb_amount_answer mkb_convert(mkb_amount a, int64_t to);
 /* the same by a euro step of 3 to 6 decimals between two old units (mkb_convert's is 3); a step over L is 13, which at 6 decimals is one over
@@ -221,7 +237,7 @@ mkb_moved mkb_post(mkb_book book, mkb_amount a);
 mkb_moved mkb_refund(mkb_book book, mkb_amount a);
 /* the book on its next card, with these weights for the same count: the running totals are added to the settled ones, the net total is 0, and the
  * payouts are sixteen noughts: refusals 3, 4, 9, 10 */
-mkb_moved mkb_card(mkb_book book, const uint32_t *weights, size_t count);
+mkb_moved mkb_new_card(mkb_book book, const uint32_t *weights, size_t count);
 /* each partner's running total at the book's net total: refusals 3, 4, 9, 10 */
 mkb_totals mkb_running_totals(mkb_book book);
 /* the movements in turn, each as mkb_refund where `refunds` has true, else as mkb_post, of its coefficient in the book's currency at its own digits:

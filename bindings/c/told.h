@@ -73,4 +73,6 @@ void limits(void);
 /* rows of doubles and exports (doubles.c) */
 void doubles(void);
 void statements(void);
+/* amounts as text (texts.c) */
+void texts(void);
 #endif

@@ -12,8 +12,10 @@ whole number raises TypeError, and one that its C type can't hold OverflowError;
     (4, 2, 1)
     >>> print(sum([Amount(EUR, 2, 150), Amount(EUR, 1, 25)]))
     4.00 EUR
-    >>> Amount.from_decimal(EUR, Decimal("-12.50"))
+    >>> Amount.parse(EUR, "-12.50")
     Amount(currency=0, scale=2, coefficient=-1250)
+    >>> Amount.parse(currency_of("DEM"), "100.00").text()
+    '100.00'
 """
 from __future__ import annotations
 
@@ -25,7 +27,7 @@ from enum import IntEnum
 from typing import Any, Callable, NamedTuple
 
 from morskebab_c import PARTNERS, VERSION, CAmount, CBook, CColumns, CDate, load
-from morskebab_values import REASONS, Refused, as_list, is_a, whole
+from morskebab_values import REASONS, Refused, as_bytes, as_list, is_a, whole
 
 __version__ = f"{VERSION // 10000}.{VERSION // 100 % 100}.{VERSION % 100}"
 
@@ -44,10 +46,11 @@ class Basis(IntEnum):
 
 ACTUAL_360, ACTUAL_365, THIRTY_360_AMERICAN, THIRTY_360_EUROPEAN = Basis
 
-# the largest magnitude of a coefficient, the largest scale, and the most periods of a table
+# the largest magnitude of a coefficient, the largest scale, the most periods of a table, and the most characters of a text
 L = 999_999_999_999_999
 SCALE = 6
 PERIODS = 120
+TEXT = 20
 
 _library = load()
 
@@ -76,6 +79,12 @@ def currency_line(currency: int) -> Line | None:
     """The table's line of a currency number; None for any number but 0 to 20."""
     line = _library.mkb_currency(whole(c_int64, "currency", currency))
     return Line(bytes(line.code).decode(), line.figures, line.places, line.digits) if line.figures else None
+
+
+def currency_of(code: str) -> int | None:
+    """The number of the currency with this code of three capitals; None where the table has none."""
+    number = _library.mkb_currency_of(*as_bytes("code", code))
+    return number if currency_line(number) else None
 
 
 @dataclass(frozen=True)
@@ -123,6 +132,17 @@ class Amount:
         return cls(c.currency, c.scale, c.coefficient)
 
     @classmethod
+    def parse(cls, currency: int, text: str) -> Amount:
+        """The amount that a text is: an optional minus, digits, optionally a point with 1 to 6 digits, which are the scale; no leading zeros but a single
+        0 before the point, no minus on zero, at most 20 characters: refusals 4, 14, 13."""
+        return cls._of(_accepted(_library.mkb_read(whole(c_int64, "currency", currency), *as_bytes("text", text))).amount)
+
+    def text(self) -> str:
+        """The amount's only text, which `parse` reads: refusals 2, 3, 4."""
+        out = (c_uint8 * TEXT)()
+        return bytes(out[: _accepted(_library.mkb_write(self._c(), out, TEXT)).length]).decode()
+
+    @classmethod
     def from_decimal(cls, currency: int, value: Decimal) -> Amount:
         """The exact amount: its scale is the number of the decimal's digits after the point."""
         sign, digits, exponent = is_a(Decimal, "value", value).as_tuple()
@@ -138,8 +158,10 @@ class Amount:
         return Decimal((int(self.coefficient < 0), tuple(map(int, str(abs(self.coefficient)))), -self.scale))
 
     def __str__(self) -> str:
-        line = currency_line(self.currency)
-        return f"{self.as_decimal():f} {line.code}" if line and 0 <= self.scale <= SCALE else repr(self)
+        try:
+            return f"{self.text()} {bytes(_library.mkb_currency(self.currency).code).decode()}"
+        except Refused:
+            return repr(self)
 
     def _key(self) -> tuple:
         """Equal for amounts of one currency and one worth, at any scale that an amount has."""
@@ -351,7 +373,7 @@ class Book:
         """The book on its next card, with these weights for the same count: the running totals are settled and the net total is 0; refusals 3, 4,
         9, 10."""
         lent, count = as_list(c_uint32, "weights", weights)
-        return Book._of(_accepted(_library.mkb_card(self._c(), lent, count)).book)
+        return Book._of(_accepted(_library.mkb_new_card(self._c(), lent, count)).book)
 
     def running_totals(self) -> tuple[int, ...]:
         """Each partner's running total at the net total: refusals 3, 4, 9, 10."""

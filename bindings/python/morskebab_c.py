@@ -38,6 +38,7 @@ CWhole = _answer("CWhole", ("value", c_int64))
 CAmountAnswer = _answer("CAmountAnswer", ("amount", CAmount))
 COrder = _answer("COrder", ("order", c_int8))
 CDays = _answer("CDays", ("days", c_uint32))
+CWritten = _answer("CWritten", ("length", c_uint64))
 CSplit = _answer("CSplit", ("net", CAmount), ("tax", CAmount), ("gross", CAmount))
 CRowAnswer = _answer("CRowAnswer", ("net", CAmount), ("tax", CAmount))
 CDouble = _answer("CDouble", ("value", c_double))
@@ -59,6 +60,9 @@ FUNCTIONS = {
     "mkb_version": (c_uint32,),
     "mkb_round": (CWhole, c_int64, c_int64, c_int64, c_int64),
     "mkb_currency": (CLine, c_int64),
+    "mkb_currency_of": (c_uint8, *_lent(c_uint8)),
+    "mkb_read": (CAmountAnswer, c_int64, *_lent(c_uint8)),
+    "mkb_write": (CWritten, CAmount, *_lent(c_uint8)),
     "mkb_sum": (CAmountAnswer, CAmount, CAmount),
     "mkb_order": (COrder, CAmount, CAmount),
     "mkb_negate": (CAmountAnswer, CAmount),
@@ -79,7 +83,7 @@ FUNCTIONS = {
     "mkb_open": (COpened, c_int64, *_lent(c_uint32)),
     "mkb_post": (CMoved, CBook, CAmount),
     "mkb_refund": (CMoved, CBook, CAmount),
-    "mkb_card": (CMoved, CBook, *_lent(c_uint32)),
+    "mkb_new_card": (CMoved, CBook, *_lent(c_uint32)),
     "mkb_running_totals": (CTotals, CBook),
     "mkb_write_statement": (CEnd, c_int64, *_lent(c_uint16), *_lent(c_int64), *_lent(c_uint8), c_int64),
     "mkb_check_statement": (CStatement, *_lent(c_uint8)),

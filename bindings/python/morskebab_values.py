@@ -3,7 +3,7 @@ from __future__ import annotations
 
 import operator
 from collections.abc import Mapping
-from ctypes import Array, c_bool, sizeof
+from ctypes import Array, c_bool, c_uint8, sizeof
 from typing import Any
 
 REASONS = {
@@ -61,6 +61,12 @@ def as_list(kind: Any, field: str, values: Any) -> tuple[Array, int]:
     held = [whole(kind, f"{field}[{place}]", value) for place, value in enumerate(values)]
     # one place more, so that an empty list has an address too
     return (kind * (len(held) + 1))(*held), len(held)
+
+
+def as_bytes(field: str, text: Any) -> tuple[Array, int]:
+    """A str's characters as bytes, and their number; one that ASCII hasn't becomes several bytes, none of them a digit."""
+    held = is_a(str, field, text).encode("utf-8", "surrogatepass")
+    return (c_uint8 * (len(held) + 1))(*held), len(held)
 
 
 def is_a(kind: type, field: str, value: Any) -> Any:

@@ -11,8 +11,8 @@ import morskebab
 from morskebab import (
     DEM, EUR, FRF, HRK, IEP, ITL, CEILING, DOWN, FLOOR, HALF_DOWN, HALF_EVEN, HALF_UP, UP, L, REASONS,
     ACTUAL_360, ACTUAL_365, THIRTY_360_AMERICAN, THIRTY_360_EUROPEAN,
-    Amount, Book, Columns, Date, Moved, Ran, Refused, Split, currency_line, day_count, plain_quotient, take_row, vouchers,
-    Amount, Book, Date, Moved, Ran, Refused, Split, currency_line, day_count, plain_quotient, vouchers, Statement, check_statement, write_statement,
+    Amount, Book, Columns, Date, Moved, Ran, Refused, Split, Statement, check_statement, currency_line, currency_of, day_count, plain_quotient, take_row,
+    vouchers, write_statement,
 )
 from morskebab_c import PARTNERS, CAmount, CBook
 
@@ -123,6 +123,26 @@ def texts_and_decimals():
     named(OverflowError, "value", lambda: Amount.from_decimal(EUR, Decimal("1E+999999999")))
     named(OverflowError, "coefficient", lambda: Amount.from_decimal(EUR, Decimal(2**63)))
     named(TypeError, "value", lambda: Amount.from_decimal(EUR, 12.5))
+
+
+def parsed():
+    for text, scale, coefficient in (
+        ("-12.50", 2, -1250), ("0", 0, 0), ("0.000000", 6, 0), ("-0.000001", 6, -1), ("7", 0, 7), ("10.0", 1, 100), ("-0.05", 2, -5), (str(L), 0, L),
+    ):
+        same(Amount.parse(DEM, text), Amount(DEM, scale, coefficient))
+        same(Amount(DEM, scale, coefficient).text(), text)
+    for text in ("", "-", "+1", "01", "-0", "-0.0", "1.", ".5", "1.0000000", "1.2.3", " 1", "1,5", "1e3", "1\0", "\u0661", "\ud800", "9" * 21):
+        refused(14, lambda text=text: Amount.parse(EUR, text))
+    for text in (str(L + 1), "9" * 20, str(2**64), "-" + "9" * 19):
+        refused(13, lambda text=text: Amount.parse(EUR, text))
+    refused(4, lambda: Amount.parse(21, "x"))
+    refused(2, Amount(21, 7, L + 1).text)
+    refused(3, Amount(21, 2, L + 1).text)
+    refused(4, Amount(21, 2, 1).text)
+    same((str(Amount(21, 2, 1)), str(euros(L + 1))), (repr(Amount(21, 2, 1)), repr(euros(L + 1))))
+    named(TypeError, "text", lambda: Amount.parse(EUR, b"1"))
+    same([currency_of(currency_line(number).code) for number in range(21)], list(range(21)))
+    same([currency_of(code) for code in ("", "EU", "EURO", "eur", "XXX")], [None] * 5)
 
 
 def fields():
@@ -399,7 +419,7 @@ def versions():
 
 
 def main():
-    for part in (modes, amounts, past_limits, texts_and_decimals, fields, lines, euro_steps, days, tables, prices, rows_of_doubles, shares, handed_out, books, cards, broken_books, statements, processes, versions):
+    for part in (modes, amounts, past_limits, texts_and_decimals, parsed, fields, lines, euro_steps, days, tables, prices, rows_of_doubles, shares, handed_out, books, cards, broken_books, statements, processes, versions):
         part()
     examples = doctest.testmod(morskebab)
     assert not examples.failed

@@ -61,7 +61,7 @@ impl Book {
     /// The book on its next card, with these weights for the same count: the running totals are added to the settled ones, and the net total is 0.
     /// Refusals 3, 4, 9, 10. Refused, the book is as it was.
     pub fn card(self, weights: &[u32]) -> Result<Moved, Refusal> {
-        unsafe { ffi::mkb_card(self.into(), weights.as_ptr(), weights.len()) }.into()
+        unsafe { ffi::mkb_new_card(self.into(), weights.as_ptr(), weights.len()) }.into()
     }
 
     /// Each partner's running total at the net total: refusals 3, 4, 9, 10.

@@ -94,6 +94,13 @@ pub struct Double {
 }
 
 #[repr(C)]
+pub struct Written {
+    pub refusal: u8,
+    pub blamed: u8,
+    pub length: u64,
+}
+
+#[repr(C)]
 pub struct Opened {
     pub refusal: u8,
     pub blamed: u8,
@@ -148,6 +155,9 @@ extern "C" {
     pub fn mkb_version() -> u32;
     pub fn mkb_round(mode: i64, a: i64, b: i64, d: i64) -> Whole;
     pub fn mkb_currency(currency: i64) -> Line;
+    pub fn mkb_currency_of(code: *const u8, length: usize) -> u8;
+    pub fn mkb_read(currency: i64, text: *const u8, length: usize) -> AmountAnswer;
+    pub fn mkb_write(a: Amount, out: *mut u8, room: usize) -> Written;
     pub fn mkb_sum(a: Amount, b: Amount) -> AmountAnswer;
     pub fn mkb_order(a: Amount, b: Amount) -> OrderAnswer;
     pub fn mkb_negate(a: Amount) -> AmountAnswer;
@@ -168,7 +178,7 @@ extern "C" {
     pub fn mkb_open(currency: i64, weights: *const u32, count: usize) -> Opened;
     pub fn mkb_post(book: Book, a: Amount) -> Moved;
     pub fn mkb_refund(book: Book, a: Amount) -> Moved;
-    pub fn mkb_card(book: Book, weights: *const u32, count: usize) -> Moved;
+    pub fn mkb_new_card(book: Book, weights: *const u32, count: usize) -> Moved;
     pub fn mkb_running_totals(book: Book) -> Totals;
     pub fn mkb_write_statement(
         currency: i64,

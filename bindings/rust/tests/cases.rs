@@ -85,6 +85,35 @@ fn table_of_currencies() {
 }
 
 #[test]
+fn texts() {
+    for (text, scale, coefficient) in [("-12.50", 2, -1_250), ("0", 0, 0), ("0.000000", 6, 0), ("-0.000001", 6, -1), ("7", 0, 7), ("10.0", 1, 100)] {
+        let a = Amount::new(DEM, scale, coefficient);
+        assert_eq!(Amount::parse(DEM, text), Ok(a));
+        assert_eq!(a.text().as_deref(), Ok(text));
+        let mut out = [b'_'; Amount::TEXT];
+        assert_eq!(a.write_text(&mut out[..text.len() - 1]), Err(Refusal::Room));
+        assert_eq!(out, [b'_'; Amount::TEXT]);
+        assert_eq!(a.write_text(&mut out), Ok(text.len()));
+        assert!(out.starts_with(text.as_bytes()) && out[text.len()..].iter().all(|byte| *byte == b'_'));
+    }
+    for text in ["", "-", "+1", "01", "-0", "-0.0", "1.", ".5", "1.0000000", "1.2.3", " 1", "1,5", "1\0", "\u{661}", "999999999999999999999"] {
+        assert_eq!(Amount::parse(EUR, text), Err(Refusal::Malformed));
+    }
+    assert_eq!(Amount::parse(EUR, "99999999999999999999"), Err(Refusal::Limit));
+    assert_eq!(Amount::parse(EUR, &(Amount::L + 1).to_string()), Err(Refusal::Limit));
+    assert_eq!(Amount::parse(EUR, &Amount::L.to_string()), Ok(Amount::new(EUR, 0, Amount::L)));
+    assert_eq!(Amount::parse(Currency(21), "x"), Err(Refusal::Unknown));
+    assert_eq!(euros(Amount::L + 1).text(), Err(Refusal::Magnitude));
+    for number in 0..=20 {
+        let code = Currency(number).line().code.map(char::from).iter().collect::<String>();
+        assert_eq!(Currency::of_code(&code), Some(Currency(number)));
+    }
+    for code in ["", "EU", "EURO", "eur", "XXX"] {
+        assert_eq!(Currency::of_code(code), None);
+    }
+}
+
+#[test]
 fn versions_and_words() {
     let parts: Vec<u32> = env!("CARGO_PKG_VERSION").split('.').map(|part| part.parse().expect("a number")).collect();
     assert_eq!(version(), 10_000 * parts[0] + 100 * parts[1] + parts[2]);

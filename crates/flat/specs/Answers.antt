@@ -15,6 +15,7 @@ use Rattle.flat.specs.declared.MkbAmountAnswer.{MkbAmountAnswer}
 use Rattle.flat.specs.declared.MkbOrderAnswer.{MkbOrderAnswer}
 use Rattle.flat.specs.declared.MkbDays.{MkbDays}
 use Rattle.flat.specs.declared.MkbSplit.{MkbSplit}
+use Rattle.flat.specs.declared.MkbWritten.{MkbWritten}
 
 -- the number of what a call says, and the date that is blamed: both 0 where the call is accepted
 abbrev pub refusalOf : {A : Type 0} → Said A → ℕ
@@ -55,6 +56,11 @@ orderOf (refuses number blamed) = record { refusal = number; blamed = blamed; or
 abbrev pub daysOf : Said ℕ → MkbDays
 daysOf (gives n) = record { refusal = 0; blamed = 0; days = n }
 daysOf (refuses number blamed) = record { refusal = number; blamed = blamed; days = 0 }
+
+-- so many places of a lent buffer
+abbrev pub writtenOf : Said ℕ → MkbWritten
+writtenOf (gives n) = record { refusal = 0; blamed = 0; length = n }
+writtenOf (refuses number blamed) = record { refusal = number; blamed = blamed; length = 0 }
 
 -- a price taken apart
 abbrev pub splitOf : Said Split → MkbSplit

@@ -13,6 +13,7 @@ mod orders;
 mod prices;
 mod rows;
 mod statements;
+mod texts;
 mod wholes;
 
 pub use amounts::flat_answer;
@@ -36,6 +37,7 @@ pub use rows::flat_row;
 pub use rows::given_row;
 pub use statements::flat_end;
 pub use statements::flat_statement;
+pub use texts::flat_written;
 pub use wholes::flat_whole;
 
 // Its worth is coefficient / 10^scale.
@@ -131,6 +133,14 @@ pub struct MkbDouble {
     pub refusal: u8,
     pub blamed: u8,
     pub value: f64,
+}
+
+// So many of the first places of a lent buffer are written.
+#[repr(C)]
+pub struct MkbWritten {
+    pub refusal: u8,
+    pub blamed: u8,
+    pub length: u64,
 }
 
 #[repr(C)]

@@ -14,18 +14,20 @@ use Rattle.vouchers.specs.Said.{vouchersSaid}
 use Rattle.compound.specs.Table.{tableSaid, listAfter}
 use Rattle.statement.specs.Files.{fileBytes}
 use Rattle.statement.specs.Writing.{payout, writeSaid, bufferAfter}
+use Rattle.text.specs.Written.{textOf, writeSaid as textSaid, bufferAfter as textAfter}
 use Rattle.tax.specs.declared.Taxed.{Taxed}
 use Rattle.tax.specs.Tax.{meansTax}
 use Rattle.tax.proofs.Unique.{one-net-for-gross}
 use Rattle.flat.specs.declared.MkbAmount.{MkbAmount}
 use Rattle.flat.specs.declared.MkbSplit.{MkbSplit}
+use Rattle.flat.specs.declared.MkbWritten.{MkbWritten}
 use Rattle.bulk.specs.Runs.{runSaid, payoutsAfter, numbersAfter}
 use Rattle.flat.specs.declared.MkbBook.{MkbBook}
 use Rattle.flat.specs.declared.MkbRan.{MkbRan}
 use Rattle.flat.specs.declared.MkbEnd.{MkbEnd}
 use Rattle.flat.specs.Given.{currencyFrom, amountFrom, bookFrom, passed8, passed32, passed64}
 use Rattle.flat.specs.Statements.{endOf}
-use Rattle.flat.specs.Answers.{refusalOf, splitOf}
+use Rattle.flat.specs.Answers.{refusalOf, splitOf, writtenOf}
 use Rattle.flat.specs.Books.{ranOf}
 use Rattle.morskebab.specs.NetAnswer.{NetAnswer}
 
@@ -72,6 +74,14 @@ Writes currency places coefficients out start r left =
 pub one-statement : (currency : ℤ) (places : List ℕ) (coefficients : List ℤ) (out : List ℕ) (start : ℤ) (r s : MkbEnd) (left left′ : List ℕ)
     → Writes currency places coefficients out start r left → Writes currency places coefficients out start s left′ → (r ≡ s) × (left ≡ left′)
 one-statement currency places coefficients out start r s left left′ p q = (one-answer (p .0) (q .0), one-answer (p .1) (q .1))
+
+-- what `mkb_write` promises of its answer and of the buffer that it was lent
+abbrev pub Texts : MkbAmount → (out : List ℕ) (r : MkbWritten) (left : List ℕ) → Type 0
+Texts a out r left =
+    let said = textSaid (amountFrom a) (length out) in (r ≡ writtenOf said) × (left ≡ textAfter (textOf (amountFrom a)) said out)
+
+pub one-write : (a : MkbAmount) (out : List ℕ) (r s : MkbWritten) (left left′ : List ℕ) → Texts a out r left → Texts a out s left′ → (r ≡ s) × (left ≡ left′)
+one-write a out r s left left′ p q = (one-answer (p .0) (q .0), one-answer (p .1) (q .1))
 
 -- what `mkb_run` promises of its answer and of the places that it was lent, which are those after as many calls as the answer says were served
 pub record Ran (book : MkbBook) (refunds : List Bool) (coefficients : List ℤ) (payouts numbers : List ℕ) (r : MkbRan) (paid said : List ℕ) : Type 0 where

@@ -44,7 +44,7 @@ pub extern "C" fn mkb_refund(book: MkbBook, a: MkbAmount) -> MkbMoved
 // The book on its next card, with these weights for the same count: the running totals are settled, the net total is 0, nothing is paid; refused,
 // the given book: refusals 3, 4, 9, 10.
 #[no_mangle]
-pub extern "C" fn mkb_card(book: MkbBook, weights: &[u32]) -> MkbMoved
+pub extern "C" fn mkb_new_card(book: MkbBook, weights: &[u32]) -> MkbMoved
     ensures { λ r. ⌜ r ≡ cardedOf book (cardSaid (bookFrom book) (now (weights .entry))) ⌝ }
 {
     flat_moved(book, given_book(book).card(weights))

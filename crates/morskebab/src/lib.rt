@@ -9,4 +9,5 @@ mod runs;
 mod shares;
 mod statements;
 mod tables;
+mod texts;
 mod versions;
