@@ -17,6 +17,8 @@ use Rattle.console.specs.declared.Verb.the-variants.{
   TaxNet,
   TaxGross,
   NetFor,
+  Row,
+  Export,
   Share,
   Vouchers,
   Compound,
@@ -51,13 +53,14 @@ ofFive word =
     (cond (sameBytes word (115 ∷ 104 ∷ 97 ∷ 114 ∷ 101 ∷ [])) Share
     Unknown))
 
--- refund, negate, totals
+-- refund, negate, totals, export
 abbrev pub ofSix : List ℕ → Verb
 ofSix word =
     cond (sameBytes word (114 ∷ 101 ∷ 102 ∷ 117 ∷ 110 ∷ 100 ∷ [])) Refund
     (cond (sameBytes word (110 ∷ 101 ∷ 103 ∷ 97 ∷ 116 ∷ 101 ∷ [])) Negate
     (cond (sameBytes word (116 ∷ 111 ∷ 116 ∷ 97 ∷ 108 ∷ 115 ∷ [])) Totals
-    Unknown))
+    (cond (sameBytes word (101 ∷ 120 ∷ 112 ∷ 111 ∷ 114 ∷ 116 ∷ [])) Export
+    Unknown)))
 
 -- rescale, convert, tax-net, net-for, settled
 abbrev pub ofSeven : List ℕ → Verb
@@ -77,12 +80,13 @@ ofEight word =
     (cond (sameBytes word (99 ∷ 111 ∷ 109 ∷ 112 ∷ 111 ∷ 117 ∷ 110 ∷ 100 ∷ [])) Compound
     Unknown))
 
--- sum, tax-gross
+-- sum, tax-gross, row
 abbrev pub ofOthers : List ℕ → Verb
 ofOthers word =
     cond (sameBytes word (115 ∷ 117 ∷ 109 ∷ [])) Sum
     (cond (sameBytes word (116 ∷ 97 ∷ 120 ∷ 45 ∷ 103 ∷ 114 ∷ 111 ∷ 115 ∷ 115 ∷ [])) TaxGross
-    Unknown)
+    (cond (sameBytes word (114 ∷ 111 ∷ 119 ∷ [])) Row
+    Unknown))
 
 -- a word is looked for among those of its length
 unfoldable pub verbOf : List ℕ → Verb
@@ -107,6 +111,8 @@ takesOf Interest count = eqb count 12
 takesOf TaxNet count = eqb count 5
 takesOf TaxGross count = eqb count 5
 takesOf NetFor count = eqb count 5
+takesOf Row count = eqb count 5
+takesOf Export count = eqb count 3
 takesOf Share count = leb 3 count
 takesOf Vouchers count = leb 2 count
 takesOf Compound count = eqb count 6

@@ -42,6 +42,8 @@ pub enum Verb {
     TaxNet,
     TaxGross,
     NetFor,
+    Row,
+    Export,
     Share,
     Vouchers,
     Compound,

@@ -48,6 +48,9 @@ fn of_six(word: &[u8]) -> Verb
     if same(word, b"totals") {
         return Verb::Totals;
     }
+    if same(word, b"export") {
+        return Verb::Export;
+    }
     Verb::Unknown
 }
 
@@ -96,6 +99,9 @@ fn of_others(word: &[u8]) -> Verb
     if same(word, b"tax-gross") {
         return Verb::TaxGross;
     }
+    if same(word, b"row") {
+        return Verb::Row;
+    }
     Verb::Unknown
 }
 
@@ -139,6 +145,8 @@ pub fn takes(verb: Verb, count: usize) -> bool
         Verb::TaxNet => count == 5,
         Verb::TaxGross => count == 5,
         Verb::NetFor => count == 5,
+        Verb::Row => count == 5,
+        Verb::Export => count == 3,
         Verb::Share => 3 <= count,
         Verb::Vouchers => 2 <= count,
         Verb::Compound => count == 6,

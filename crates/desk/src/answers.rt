@@ -15,6 +15,8 @@ pub enum Reply {
     Refused(Refusal),
     Whole(i64),
     Two(i64, i64),
+    // the 64 bits of a double
+    Bits(u64),
     Value(Amount),
     // an amount, and the days that it is for
     Interest(Amount, u32),
@@ -68,6 +70,7 @@ pub(crate) fn put_reply(out: &mut [u8], at: usize, reply: Reply) -> usize {
             let behind = put_whole(out, behind, one);
             put_whole(out, behind, other)
         },
+        Reply::Bits(bits) => put_named(out, at, b"= ", bits),
         Reply::Value(amount) => put_amount(out, at, amount),
         Reply::Interest(amount, days) => {
             let behind = put_amount(out, at, amount);

@@ -16,6 +16,8 @@ use crate::calls::quotient_of;
 use crate::calls::rescale;
 use crate::calls::share_of;
 use crate::calls::tax_of;
+use crate::columns::export_of;
+use crate::columns::row_of;
 use crate::lists::compound_of;
 use crate::lists::vouchers_of;
 use book::Book;
@@ -46,6 +48,8 @@ fn call(verb: Verb, count: usize, signs: &[bool], values: &[u64]) -> Reply {
         Verb::Interest => interest_of(signs, values),
         Verb::TaxNet | Verb::TaxGross => tax_of(verb, signs, values),
         Verb::NetFor => net_for(signs, values),
+        Verb::Row => row_of(signs, values),
+        Verb::Export => export_of(signs, values),
         _ => Reply::Unknown,
     }
 }

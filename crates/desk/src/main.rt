@@ -3,6 +3,7 @@ mod answers;
 mod asking;
 mod books;
 mod calls;
+mod columns;
 mod lists;
 mod turns;
 

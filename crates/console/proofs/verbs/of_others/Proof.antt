@@ -23,8 +23,17 @@ same-requires-2 c κs = search needs
 returns-2 : tie.Need-returns-2
 returns-2 c = rw (told _ _ _ (c .before .before .before .before .same .ensures) ∙ c .before .before .before .if1 .left, told _ _ _ (c .before .same2 .ensures) ∙ c .if2 .taken)
 
+slice-aggregate-same-3 : tie.Need-slice-aggregate-same-3
+slice-aggregate-same-3 c = search needs
+
+same-requires-3 : tie.Need-same-requires-3
+same-requires-3 c κs = search needs
+
 returns-3 : tie.Need-returns-3
-returns-3 c = rw (told _ _ _ (c .before .before .before .before .same .ensures) ∙ c .before .before .before .if1 .left, told _ _ _ (c .before .same2 .ensures) ∙ c .if2 .left)
+returns-3 c = rw (told _ _ _ (c .before .before .before .before .before .before .before .same .ensures) ∙ c .before .before .before .before .before .before .if1 .left, told _ _ _ (c .before .before .before .before .same2 .ensures) ∙ c .before .before .before .if2 .left, told _ _ _ (c .before .same3 .ensures) ∙ c .if3 .taken)
+
+returns-4 : tie.Need-returns-4
+returns-4 c = rw (told _ _ _ (c .before .before .before .before .before .before .before .same .ensures) ∙ c .before .before .before .before .before .before .if1 .left, told _ _ _ (c .before .before .before .before .same2 .ensures) ∙ c .before .before .before .if2 .left, told _ _ _ (c .before .same3 .ensures) ∙ c .if3 .left)
 
 pub of-others-spec : {M : Type 1} → statement M
 of-others-spec =
@@ -36,4 +45,7 @@ of-others-spec =
     slice-aggregate-same-2
     same-requires-2
     returns-2
-    returns-3)
+    slice-aggregate-same-3
+    same-requires-3
+    returns-3
+    returns-4)
