@@ -4,7 +4,7 @@ use mathlib.Core.Path.{_≡_, refl, sym, _∙_, ap, ap₂, subst}
 use mathlib.Core.Bool.{Bool, true, false, cond, not, _&&_, _||_}
 use mathlib.Core.List.{List, [], _∷_, _++_}
 use mathlib.Core.Logic.{_↔_}
-use Prim.Native.Nat.{ℕ, zero, suc, _+_, _-_, _≤_, _<_}
+use Prim.Native.Nat.{ℕ, suc, _+_, _-_, _≤_, _<_}
 use native.Mathlib.Nat.{add-zero}
 use native.Mathlib.Numerals.{add-one}
 use native.Mathlib.Decide.{decLt}
@@ -13,11 +13,11 @@ use borrow.Author.Tests.{lt-ltb, le-ltb, lt-leb, eq-eqb, ne-eqb, ltb-false, leb-
 use lib.Dec.{leb, ltb, eqb}
 use lib.ListN.{length, getD, take, drop, length-append, length-drop, take-append-drop, drop-of-length-le, List·getD-append}
 use lib.Seq.{slice, slice-cons, length-slice, drop-append-add, getD-append-add, drop-cons, drop-drop}
-use Rattle.lines.specs.Lines.{span, isDigit, worth}
+use Rattle.lines.specs.Lines.{span, isDigit}
 use Rattle.lines.proofs.Scans.{part}
 use Rattle.lines.proofs.Spans.{span-le}
 use Rattle.text.specs.Grammar.{Digits, none, more, minus, pointed, number, Text, Accepted}
-use Rattle.text.specs.Read.{negativeIn, startIn, digitsEnd, endIn, fractionFrom, numberAt, scaleAt, badWhole, badFraction, badShape, signedZero, malformed}
+use Rattle.text.specs.Read.{negativeIn, startIn, digitsEnd, endIn, fractionFrom, numberAt, badWhole, badFraction, badShape, signedZero, malformed}
 use Rattle.text.proofs.Digits.{scanned, passed}
 use Rattle.text.proofs.Spelled.{passed-digits}
 use Rattle.text.proofs.Parts.{sign-is, start-is, end-is, number-there}

@@ -1,17 +1,17 @@
 -- "The accepted texts are exactly that grammar's within L": an amount is given exactly where the currency is known, the bytes are a text of the grammar, its number is
 -- within L, and the amount is its. Assumes nothing.
-use mathlib.Core.Path.{_≡_, refl, sym, _∙_, ap}
-use mathlib.Core.Bool.{Bool, true, false}
+use mathlib.Core.Path.{_≡_, sym, _∙_, ap}
+use mathlib.Core.Bool.{Bool, false}
 use mathlib.Core.List.{List, [], _∷_}
 use mathlib.Core.Logic.{_↔_}
-use Prim.Native.Nat.{ℕ, _≤_, _<_}
+use Prim.Native.Nat.{ℕ, _≤_}
 use native.Mathlib.Omega.{arith}
 use borrow.Author.Tests.{le-ltb, ltb-false}
 use lib.ListN.{length}
 use lib.Seq.{slice}
 use Rattle.refusal.specs.declared.Refusal.the-variants.{Unknown, Malformed, Limit}
-use Rattle.refusal.specs.Rows.{Said, gives, Row, row, firstRow, checkOf}
-use Rattle.refusal.proofs.Check.{passed, clear}
+use Rattle.refusal.specs.Rows.{Said, gives, row, firstRow}
+use Rattle.refusal.proofs.Check.{clear}
 use Rattle.refusal.proofs.Joined.{same-value, let-pass}
 use Rattle.currency.specs.declared.Currency.{Currency}
 use Rattle.currency.specs.Table.{lastCurrency, unknown}

@@ -1,10 +1,9 @@
 -- Document 02's "-12.50" and the edges of the grammar, by computing both sides. Assumes nothing.
 use mathlib.Core.Path.{_≡_, refl}
-use mathlib.Core.List.{List, [], _∷_, map}
-use Prim.Native.Nat.{ℕ, _/_, _%_, _^_}
+use mathlib.Core.List.{[], _∷_, map}
+use Prim.Native.Nat.{ℕ}
 use lib.IntN.{pos, negsuc}
-use lib.ListN.{length}
-use Rattle.refusal.specs.Rows.{Said, gives, refuses}
+use Rattle.refusal.specs.Rows.{gives, refuses}
 use Rattle.lines.specs.Lines.{span, worth}
 use Rattle.lines.specs.Texts.{decimal}
 use Rattle.currency.specs.Names.{EUR}

@@ -1,22 +1,20 @@
 -- What the reader computes from a text of a good shape: the numbers of its digits before and after the point, and of both together, up to the first number
 -- over L, which tells that the text's is over L too. Assumes nothing.
-use mathlib.Core.Path.{_≡_, refl, sym, _∙_, ap, ap₂, subst}
-use mathlib.Core.Bool.{Bool, true, false, cond, not, _&&_, _||_}
-use mathlib.Core.List.{List, [], _∷_, _++_}
-use Prim.Native.Nat.{ℕ, zero, suc, min, _+_, _-_, _*_, _^_, _≤_, _<_}
+use mathlib.Core.Path.{_≡_, refl, sym, _∙_, ap, subst}
+use mathlib.Core.Bool.{Bool, true, false, cond, _&&_, _||_}
+use mathlib.Core.List.{List, [], _∷_}
+use Prim.Native.Nat.{ℕ, suc, min, _+_, _-_, _*_, _^_, _≤_, _<_}
 use native.Mathlib.Nat.{pow-le-pow-right, one-le-pow, mul-le-mul-left}
 use native.Mathlib.Decide.{decLe}
 use native.Mathlib.Omega.{arith}
 use borrow.Author.Tests.{lt-ltb, le-ltb, le-leb, lt-leb, eq-eqb, ne-eqb, ltb-false}
-use lib.Dec.{leb, ltb, eqb}
-use lib.ListN.{length, getD, take, drop, length-drop}
+use lib.Dec.{ltb, eqb}
+use lib.ListN.{length, drop, length-drop}
 use lib.Seq.{slice, take-length}
 use Rattle.refusal.specs.declared.Refusal.the-variants.{Unknown, Malformed, Limit}
-use Rattle.refusal.specs.Rows.{Said, gives, refuses, Row, row, firstRow}
-use Rattle.whole.specs.Whole.{signedOf}
-use Rattle.lines.specs.Lines.{span, isDigit, worth, most, wholeOf, numberOf}
+use Rattle.refusal.specs.Rows.{gives, refuses, row, firstRow}
+use Rattle.lines.specs.Lines.{span, isDigit, worth, most, numberOf}
 use Rattle.lines.specs.Reads.{numberAt as wordAt}
-use Rattle.lines.specs.declared.Word.{Word}
 use Rattle.lines.proofs.Scans.{part}
 use Rattle.currency.specs.declared.Currency.{Currency}
 use Rattle.currency.specs.Table.{unknown}

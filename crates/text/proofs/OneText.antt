@@ -2,14 +2,12 @@
 use mathlib.Core.Path.{_≡_, refl, sym, _∙_, ap}
 use mathlib.Core.Bool.{Bool, true, false}
 use mathlib.Core.List.{List, _++_}
-use Prim.Native.Nat.{ℕ, zero, suc, _+_, _*_, _^_, _≤_, _<_}
-use native.Mathlib.Omega.{arith}
-use lib.IntN.{ℤ, pos, negsuc}
+use Prim.Native.Nat.{ℕ, _+_, _*_, _^_, _<_}
 use lib.ListN.{length}
 use Rattle.whole.specs.Whole.{negative, magnitudeOf, signedOf}
 use Rattle.whole.proofs.Laws.{magnitude-signed, negative-signed}
 use Rattle.lines.specs.Lines.{worth}
-use Rattle.text.specs.Grammar.{Digits, minus, pointed, number, Text}
+use Rattle.text.specs.Grammar.{minus, pointed, number, Text}
 use Rattle.text.proofs.Digits.{number-is, below, apart, same-digits, same-plain}
 
 -- the sign of a coefficient, where 0 has none

@@ -1,23 +1,19 @@
 -- A text of the grammar is taken apart as it was put together, and what passes the tests of the bytes is in the grammar: so row 14 holds exactly for the bytes that
 -- the grammar hasn't. Assumes nothing.
-use mathlib.Core.Path.{_≡_, refl, sym, _∙_, ap, subst}
-use mathlib.Core.Bool.{Bool, true, false, cond, not, _&&_, _||_}
+use mathlib.Core.Path.{_≡_, refl, sym, _∙_, ap}
+use mathlib.Core.Bool.{Bool, true, false, cond}
 use mathlib.Core.List.{List, [], _∷_, _++_}
-use Prim.Native.Nat.{ℕ, zero, suc, _+_, _-_, _≤_, _<_}
-use native.Mathlib.Nat.{add-zero, zero-add, suc-add}
-use native.Mathlib.Numerals.{add-one}
-use native.Mathlib.Decide.{decLt, decLe}
+use Prim.Native.Nat.{ℕ, _+_, _-_, _<_}
+use native.Mathlib.Nat.{add-zero}
 use native.Mathlib.Omega.{arith}
-use borrow.Author.Tests.{lt-ltb, le-ltb, le-leb, lt-leb, eq-eqb, ne-eqb, ltb-false, leb-false, eqb-true, eqb-false, not-false}
-use lib.Dec.{leb, ltb, eqb}
-use lib.ListN.{length, getD, take, drop, length-append, length-drop, length-take, take-append-drop, drop-of-length-le}
-use lib.Seq.{slice, take-append-add, take-append-seam, drop-append-add, drop-append-seam, getD-append-add, drop-cons, take-all}
+use borrow.Author.Tests.{ne-eqb}
+use lib.Dec.{eqb}
+use lib.ListN.{length, getD, take, drop, length-drop}
+use lib.Seq.{slice, take-append-add, take-append-seam, drop-append-add, drop-append-seam}
 use Rattle.lines.specs.Lines.{span, isDigit, worth}
-use Rattle.lines.proofs.Scans.{part}
-use Rattle.lines.proofs.Spans.{span-le}
 use Rattle.text.specs.Grammar.{Digits, none, more, minus, pointed, number, Text}
-use Rattle.text.specs.Read.{negativeIn, startIn, digitsEnd, endIn, fractionFrom, numberAt, scaleAt, badWhole, badFraction, badShape, signedZero, malformed}
-use Rattle.text.proofs.Digits.{all-passed, scanned}
+use Rattle.text.specs.Read.{negativeIn, startIn, digitsEnd, endIn, fractionFrom, numberAt, scaleAt}
+use Rattle.text.proofs.Digits.{all-passed}
 
 -- no digit stands in front of what follows the digits
 no-digit : (f : List ℕ) → span isDigit (pointed f) ≡ 0

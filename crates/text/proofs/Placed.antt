@@ -1,20 +1,19 @@
 -- What the writer puts into the buffer, piece by piece, is the text in front of it: a piece behind a piece is both at the first's place, and the digits behind the point are those of
 -- the power of ten and the rest together, with the point in the place of its 1. Assumes nothing.
 use mathlib.Core.Path.{_≡_, refl, sym, _∙_, ap, ap₂}
-use mathlib.Core.Bool.{Bool, true, false, cond}
+use mathlib.Core.Bool.{Bool, false}
 use mathlib.Core.List.{List, [], _∷_, _++_, append-assoc}
 use Prim.Native.Nat.{ℕ, zero, suc, _+_, _-_, _*_, _/_, _%_, _^_, _≤_, _<_}
 use native.Mathlib.Nat.{pow-suc, one-le-pow, mod-one, mod-lt, mod-eq-of-lt, div-add-mod', mul-add-mod-self-right}
 use native.Mathlib.Omega.{arith}
 use borrow.Author.Tests.{le-ltb, lt-ltb, ltb-false}
-use lib.Dec.{ltb}
 use lib.ListN.{length, take, drop, set, length-append, take-append-drop}
-use lib.Seq.{length-take-le, take-at, drop-at, drop-append-add, drop-drop, set-at}
+use lib.Seq.{length-take-le, take-at, drop-append-add, drop-drop, set-at}
 use Rattle.refusal.specs.declared.Checked.the-variants.{Passed, Refused}
 use Rattle.refusal.specs.declared.Refusal.the-variants.{Room}
 use Rattle.refusal.specs.declared.Refusal.{Refusal}
 use Rattle.refusal.specs.Number.{numberOf, blamedOf}
-use Rattle.refusal.specs.Rows.{Said, gives, refuses, Row, row, firstRow, checkOf}
+use Rattle.refusal.specs.Rows.{gives, refuses, Row, checkOf}
 use Rattle.refusal.proofs.Check.{passed, refused, behind as rows-behind, clear}
 use Rattle.whole.specs.Whole.{magnitudeOf}
 use Rattle.lines.specs.Texts.{decimal, textOf, putAt, placeBehind}
@@ -24,8 +23,8 @@ use Rattle.text.specs.declared.Written.{Written}
 use Rattle.text.specs.Grammar.{minus, pointed}
 use Rattle.amount.specs.declared.Amount.{Amount}
 use Rattle.amount.specs.Amounts.{lastScale, amountRows}
-use Rattle.text.specs.Written.{lastDigits, spelled, textOf as textOfAmount, writeSaid, roomRows, roomSaid, lengthSaid, bufferAfter, Writes}
-use Rattle.text.proofs.Spelled.{last-length, pow-sum}
+use Rattle.text.specs.Written.{lastDigits, spelled, textOf as textOfAmount, writeSaid, roomRows, roomSaid, bufferAfter, Writes}
+use Rattle.text.proofs.Spelled.{last-length}
 
 -- a piece behind a piece
 module _ (out : List ℕ) (at : ℕ) (xs ys : List ℕ) (room : at + length xs + length ys ≤ length out) where

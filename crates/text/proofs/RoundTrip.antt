@@ -1,15 +1,15 @@
 -- "reading what was written gives the amount with its scale, and writing what was read gives the text": for every amount that `write` takes and every text that `read`
 -- accepts; and the text of an amount is the only one of the grammar that stands for it. Assumes nothing.
-use mathlib.Core.Path.{_≡_, refl, sym, _∙_, ap}
-use mathlib.Core.Bool.{Bool, true, false}
-use mathlib.Core.List.{List, [], _∷_, _++_}
+use mathlib.Core.Path.{_≡_, sym, _∙_, ap}
+use mathlib.Core.Bool.{true}
+use mathlib.Core.List.{List, _++_}
 use Prim.Native.Nat.{ℕ, _+_, _/_, _^_, _≤_, _<_}
 use native.Mathlib.Omega.{arith}
 use borrow.Author.Tests.{le-ltb, ltb-false}
 use lib.IntN.{ℤ, pos, negsuc}
 use lib.ListN.{length, take, drop}
 use lib.Seq.{take-append-seam}
-use Rattle.refusal.specs.Rows.{Said, gives, refuses, Row, row, firstRow, checkOf}
+use Rattle.refusal.specs.Rows.{Said, gives}
 use Rattle.refusal.proofs.Check.{clear}
 use Rattle.refusal.proofs.Joined.{same-value, let-pass}
 use Rattle.whole.specs.Whole.{negative, magnitudeOf, signedOf}
@@ -19,9 +19,9 @@ use Rattle.currency.specs.declared.Currency.{Currency}
 use Rattle.currency.specs.Table.{lastCurrency}
 use Rattle.amount.specs.declared.Amount.{Amount}
 use Rattle.amount.specs.Amounts.{largest, lastScale}
-use Rattle.text.specs.Grammar.{number, Text, Accepted, amountOf}
+use Rattle.text.specs.Grammar.{number, Text, amountOf}
 use Rattle.text.specs.Read.{readSaid}
-use Rattle.text.specs.Written.{lastDigits, spelled, textOf, writeRows, writeSaid, bufferAfter}
+use Rattle.text.specs.Written.{lastDigits, textOf, writeRows, writeSaid, bufferAfter}
 use Rattle.text.proofs.Spelled.{largest-below, last-length, makes, in-grammar, text-length}
 use Rattle.text.proofs.OneText.{one-text}
 use Rattle.text.proofs.Exactly.{Stands, read-exactly}

@@ -1,11 +1,9 @@
 -- Two answers that a promise allows are equal, and so are the two buffers afterwards. Assumes nothing.
-use mathlib.Core.Path.{_≡_, refl, sym, _∙_, ap, ap₂}
+use mathlib.Core.Path.{_≡_, sym, _∙_, ap₂}
 use mathlib.Core.List.{List}
 use Prim.Native.Nat.{ℕ}
-use native.Mathlib.Omega.{arith}
 use lib.ListN.{length}
 use Rattle.refusal.specs.declared.Checked.{Checked}
-use Rattle.refusal.specs.Rows.{Said}
 use Rattle.refusal.proofs.OneToOne.{same-outcome}
 use Rattle.currency.specs.declared.Currency.{Currency}
 use Rattle.amount.specs.declared.Amount.{Amount}

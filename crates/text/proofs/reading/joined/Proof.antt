@@ -1,6 +1,6 @@
 -- Past the quotient of L the product is over L; up to it the product is within L, and the sum fits. Assumes nothing.
 use mathlib.Core.Path.{_≡_, _∙_, ap}
-use Prim.Native.Nat.{ℕ, _*_, _^_, _≤_, _<_}
+use Prim.Native.Nat.{ℕ, _*_, _^_, _≤_}
 use native.Mathlib.Nat.{one-le-pow, div-lt-iff-lt-mul, le-div-iff-mul-le}
 use native.Mathlib.Omega.{arith}
 use Rattle.currency.proofs.Tables.{power-of-ten}

@@ -1,11 +1,10 @@
 -- Row 4, then the shape's part of row 14, then the answer of a text of a good shape. Assumes nothing.
-use mathlib.Core.Path.{_≡_, sym, _∙_}
+use mathlib.Core.Path.{sym, _∙_}
 use Prim.Native.Nat.{_≤_}
 use native.Mathlib.Omega.{arith}
 use borrow.Author.Tests.{lt-ltb, le-ltb}
 use denote.Ref.{now}
 use lib.ListN.{length}
-use Rattle.text.specs.Read.{Shaped}
 use Rattle.text.proofs.Accepted.{within, start-inside}
 use Rattle.text.proofs.Numbers.{unknown-said, malformed-said, shaped-said}
 use borrow.Author.Needs.{needs}
