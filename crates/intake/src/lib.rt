@@ -41,13 +41,16 @@ pub struct Cut {
     pub next: Intake,
 }
 
-// What is known of the first word of a line after some of its bytes: nothing but spaces came; it begins so, or is `open`, with a space or a
-// carriage return behind it; or it is another.
+// What is known of the first word of a line after some of its bytes: nothing but spaces came; it begins so, or is `open` or `card`, with a space
+// or a carriage return behind it; or it is another.
 pub enum Lead {
     Spaces,
     O,
     Op,
     Ope,
+    C,
+    Ca,
+    Car,
     Open,
     OpenSpace,
     OpenReturn,

@@ -1,4 +1,6 @@
-// The current book with what is counted of it.
+// The current book with what is counted of it on its card, and what its cards before come to.
+use crate::cards::Cards;
+use crate::cards::no_cards;
 use crate::tally::Tally;
 use crate::tally::count_call;
 use crate::tally::count_calls;
@@ -32,6 +34,7 @@ pub struct Account {
     pub opening: Opening,
     pub book: Book,
     pub tally: Tally,
+    pub cards: Cards,
 }
 
 // The book whose every field is 0, before any opening and after one that is not understood.
@@ -48,6 +51,7 @@ pub(crate) fn no_account(opening: Opening) -> Account {
         opening,
         book,
         tally: no_calls(),
+        cards: no_cards(),
     }
 }
 
@@ -72,6 +76,7 @@ pub(crate) fn open(line: &[u8]) -> Account {
         opening,
         book,
         tally: no_calls(),
+        cards: no_cards(),
     }
 }
 
@@ -113,6 +118,7 @@ pub(crate) fn run_calls(
     let opening = account.opening;
     let book = account.book;
     let tally = account.tally;
+    let cards = account.cards;
     let ran = run(
         book,
         &refunds[0..count],
@@ -135,6 +141,7 @@ pub(crate) fn run_calls(
         opening,
         book,
         tally,
+        cards,
     }
 }
 
@@ -152,6 +159,7 @@ pub(crate) fn call_now(account: Account, refund: bool, amount: Amount, line: u64
     let opening = account.opening;
     let book = account.book;
     let tally = account.tally;
+    let cards = account.cards;
     let moved = move_by(book, refund, amount);
     let book = moved.book;
     let payouts = moved.payouts;
@@ -162,5 +170,6 @@ pub(crate) fn call_now(account: Account, refund: bool, amount: Amount, line: u64
         opening,
         book,
         tally,
+        cards,
     }
 }

@@ -19,7 +19,9 @@ pub enum Asked {
     Unknown,
     // an opening
     Open,
-    // an `open` that is not understood
+    // a new card
+    Card,
+    // an `open` or a `card` that is not understood
     Astray,
     // a posting, or a refund where that is true, of an amount
     Call(bool, Amount),
@@ -28,6 +30,7 @@ pub enum Asked {
 fn unknown(verb: Verb) -> Asked {
     match verb {
         Verb::Open => Asked::Astray,
+        Verb::Card => Asked::Astray,
         _ => Asked::Unknown,
     }
 }
@@ -52,6 +55,7 @@ pub(crate) fn asked_of(line: &[u8]) -> Asked {
         Verb::Post => Asked::Call(false, amount_at(&signs, &values, 0)),
         Verb::Refund => Asked::Call(true, amount_at(&signs, &values, 0)),
         Verb::Open => Asked::Open,
+        Verb::Card => Asked::Card,
         _ => Asked::Unknown,
     }
 }

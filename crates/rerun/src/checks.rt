@@ -37,7 +37,7 @@ fn first_failing(account: Account, totals: [u64; Book::PARTNERS]) -> usize {
 }
 
 // The last partner's place.
-fn last_of(count: u8) -> u64 {
+pub(crate) fn last_of(count: u8) -> u64 {
     if count == 0 {
         return 0;
     }

@@ -24,7 +24,9 @@ pub enum Met {
     Full,
     // an opening
     Open,
-    // an `open` that is not understood
+    // a new card
+    Card,
+    // an `open` or a `card` that is not understood
     Astray,
     // a call that can't wait: its amount is not in the book's currency at its own digits, or there is no book
     Call(bool, Amount),
@@ -40,7 +42,7 @@ pub struct Gathering {
     pub count: usize,
     // how many lines are done
     pub lines: u64,
-    // how many lines were not understood since the last opening, and the number of the first
+    // how many lines were not understood since the last opening or new card, and the number of the first
     pub unknown: u64,
     pub first: u64,
     // what is known of the first word of a line that is too long to hold
@@ -90,6 +92,7 @@ fn pass_line(at: Gathering, cut: Cut, asked: Asked) -> Gathering {
     }
     let met = match asked {
         Asked::Open => Met::Open,
+        Asked::Card => Met::Card,
         Asked::Astray => Met::Astray,
         Asked::Call(refund, amount) => Met::Call(refund, amount),
         _ => Met::Nothing,
@@ -127,7 +130,7 @@ fn stop_at(at: Gathering, cut: Cut, lead: Lead, met: Met) -> Gathering {
     }
 }
 
-// A line of over 4,000 bytes is not understood, whatever it holds; but its first word may be `open`.
+// A line of over 4,000 bytes is not understood, whatever it holds; but its first word may be `open` or `card`.
 fn asked_by_long(lead: Lead) -> Asked {
     if is_open(lead) {
         Asked::Astray

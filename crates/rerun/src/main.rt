@@ -1,11 +1,13 @@
 // A quarter again: the postings and refunds of standard input, or of the file that the one argument names, and a report on each book.
 mod accounts;
 mod asking;
+mod cards;
 mod checks;
 mod gathering;
 mod partners;
 mod reports;
 mod tally;
+mod together;
 mod turns;
 
 use console::Source;

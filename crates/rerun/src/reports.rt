@@ -1,4 +1,4 @@
-// The report on a book.
+// The report on a book, or on one of its cards.
 use crate::accounts::Account;
 use crate::accounts::Opening;
 use crate::checks::Check;
@@ -33,13 +33,21 @@ fn put_weights(out: &mut [u8], at: usize, weights: [u32; Book::PARTNERS], count:
     behind
 }
 
+// A book by its currency, and its later cards by their numbers.
+fn put_part(out: &mut [u8], at: usize, book: Book) -> usize {
+    if 1 < book.card {
+        return put_named(out, at, b"card ", book.card as u64);
+    }
+    put_named(out, at, b"book ", book.currency.0 as u64)
+}
+
 fn put_heading(out: &mut [u8], at: usize, opening: Opening, book: Book) -> usize {
     match opening {
         Opening::Nothing => put_bytes(out, at, b"book none"),
         Opening::Unknown => put_bytes(out, at, b"book not understood"),
         Opening::Refused(number) => put_named(out, at, b"book refused ", number as u64),
         Opening::Accepted => {
-            let behind = put_named(out, at, b"book ", book.currency.0 as u64);
+            let behind = put_part(out, at, book);
             let weights = book.weights;
             put_weights(out, behind, weights, book.count as usize)
         },
@@ -84,7 +92,7 @@ fn put_numbers(out: &mut [u8], at: usize, times: [u64; NUMBERS], first: [u64; NU
     behind
 }
 
-fn put_check(out: &mut [u8], at: usize, check: Check) -> usize {
+pub(crate) fn put_check(out: &mut [u8], at: usize, check: Check) -> usize {
     match check {
         Check::Well => put_bytes(out, at, b"check ok\n"),
         Check::Failed(place) => {
@@ -117,7 +125,7 @@ fn put_totals(out: &mut [u8], at: usize, account: Account, blemished: bool) -> R
     }
 }
 
-fn is_accepted(opening: Opening) -> bool {
+pub(crate) fn is_accepted(opening: Opening) -> bool {
     if let Opening::Accepted = opening {
         true
     } else {

@@ -5,6 +5,7 @@ use crate::accounts::call_now;
 use crate::accounts::no_account;
 use crate::accounts::open;
 use crate::accounts::run_calls;
+use crate::cards::card_now;
 use crate::gathering::CALLS;
 use crate::gathering::Gathering;
 use crate::gathering::Met;
@@ -12,6 +13,7 @@ use crate::gathering::Own;
 use crate::gathering::first_gathering;
 use crate::gathering::gather;
 use crate::reports::put_report;
+use crate::together::put_together;
 use book::Book;
 use console::BLEMISHED;
 use console::CHECK_FAILED;
@@ -30,7 +32,7 @@ use std::num::wrapping_add_u64;
 // A payout to each partner for each call of a run.
 const PAYOUTS: usize = CALLS * Book::PARTNERS;
 // More bytes than a report has.
-const REPORT: usize = 5_000;
+const REPORT: usize = 8_000;
 // After so many lines their number is said.
 const SAID: u64 = 1_000_000;
 
@@ -66,7 +68,7 @@ fn own_of(account: Account) -> Own {
     }
 }
 
-// Whether a report comes next.
+// Whether the book ends.
 fn ends_book(met: Met) -> bool {
     match met {
         Met::Open => true,
@@ -76,7 +78,18 @@ fn ends_book(met: Met) -> bool {
     }
 }
 
-// How many calls have to be served now: all that wait where there is no more place, and where the book ends.
+// Whether a report comes next: the book ends, or a new card was accepted.
+fn ends_part(met: Met, before: u16, after: u16) -> bool {
+    match met {
+        Met::Open => true,
+        Met::Astray => true,
+        Met::End => true,
+        Met::Card => before != after,
+        _ => false,
+    }
+}
+
+// How many calls have to be served now: all that wait where there is no more place, at a new card, and where the book ends.
 fn due_calls(at: Gathering) -> usize {
     let met = at.met;
     if ends_book(met) {
@@ -85,18 +98,28 @@ fn due_calls(at: Gathering) -> usize {
     if let Met::Full = met {
         return at.count;
     }
+    if let Met::Card = met {
+        return at.count;
+    }
     0
 }
 
-// With the report on a book that ends behind those that wait.
-fn report(mut reports: Reports, at: Gathering, account: Account, out: &mut [u8]) -> Reports {
-    let met = at.met;
-    if !ends_book(met) {
+// With the report on a book or a card that ends behind those that wait.
+fn report(
+    mut reports: Reports,
+    at: Gathering,
+    account: Account,
+    ends: bool,
+    out: &mut [u8],
+) -> Reports {
+    if !ends {
         return reports;
     }
+    let met = at.met;
     let waiting = reports.waiting;
     let mut waiting = make_room(out, waiting, REPORT);
     let put = put_report(out, waiting.at, account, at);
+    let put = put_together(out, put, account, ends_book(met));
     waiting.at = put.at;
     reports.waiting = waiting;
     if put.failed {
@@ -108,12 +131,25 @@ fn report(mut reports: Reports, at: Gathering, account: Account, out: &mut [u8])
     reports
 }
 
-// The book that comes next: another where one is opened, the same with a call served that could not wait.
+// The book on a new card, where the line is held.
+fn go_on_card(at: Gathering, account: Account, text: &[u8]) -> Account {
+    let start = at.start;
+    let end = at.end;
+    if start <= end {
+        if end <= text.len() {
+            return card_now(account, &text[start..end], at.lines);
+        }
+    }
+    account
+}
+
+// The book that comes next: another where one is opened, the same with a call served that could not wait or on a new card.
 fn go_on(at: Gathering, account: Account, text: &[u8]) -> Account {
     let start = at.start;
     let end = at.end;
     let met = at.met;
     match met {
+        Met::Card => go_on_card(at, account, text),
         Met::Open => if start <= end {
             if end <= text.len() {
                 return open(&text[start..end]);
@@ -128,17 +164,17 @@ fn go_on(at: Gathering, account: Account, text: &[u8]) -> Account {
     }
 }
 
-// Where the next stretch begins: an opening counts its lines anew, and more bytes come where a line's end is yet to come.
-fn move_on(fd: i32, mut at: Gathering, due: usize, text: &mut [u8]) -> Gathering {
+// Where the next stretch begins: an opening and an accepted card count their lines anew, and more bytes come where a line's end is yet to come.
+fn move_on(fd: i32, mut at: Gathering, due: usize, ends: bool, text: &mut [u8]) -> Gathering {
     let met = at.met;
     if 0 < due {
         at.count = 0;
     }
+    if ends {
+        at.unknown = 0;
+        at.first = 0;
+    }
     match met {
-        Met::Open => {
-            at.unknown = 0;
-            at.first = 0;
-        },
         Met::Astray => {
             at.unknown = 1;
             at.first = at.lines;
@@ -257,9 +293,12 @@ fn end_stretch(fd: i32, mut rerun: Rerun, text: &mut [u8], out: &mut [u8]) -> Re
     let account = rerun.account;
     let reports = rerun.reports;
     let reports = say(reports, at.lines);
-    rerun.reports = report(reports, at, account, out);
-    rerun.account = go_on(at, account, text);
-    rerun.at = move_on(fd, at, rerun.due, text);
+    let next = go_on(at, account, text);
+    let met = at.met;
+    let ends = ends_part(met, account.book.card, next.book.card);
+    rerun.reports = report(reports, at, account, ends, out);
+    rerun.account = next;
+    rerun.at = move_on(fd, at, rerun.due, ends, text);
     rerun
 }
 
