@@ -26,7 +26,7 @@ use Rattle.statement.proofs.Accepted.{GoodAt, File, accepts}
 abbrev trailerOf : (count : ℕ) → (sum : ℤ) → Trailer
 trailerOf count sum = record { distance = recordWidth * count; count = count; sum = wordOf sum; version = 1; zeros = 0 }
 
-at-nought : (bytes : List ℕ) (at count number : ℕ) → numberAt bytes (at + 0) count ≡ number → numberAt bytes at count ≡ number
+pub at-nought : (bytes : List ℕ) (at count number : ℕ) → numberAt bytes (at + 0) count ≡ number → numberAt bytes at count ≡ number
 at-nought bytes at count number e = let here : at ≡ at + 0 = omega arith in ap (λ (k : ℕ). numberAt bytes k count) here ∙ e
 
 trailer-read : (bytes : List ℕ) (place count : ℕ) (sum : ℤ) → Reads bytes place 0 (trailerFields (recordWidth * count) count sum 1)
@@ -67,7 +67,7 @@ module _ (bytes : List ℕ) (first count : ℕ) (sum : ℤ) (e : Ends bytes firs
   records-long n =
       length-append (e .front) (joined pieces n) ∙ omega (arith, e .starts, length-joined pieces recordWidth (λ i. length-record (e .piece i)) n)
 
-  bytes-long : length bytes ≡ first + recordWidth * count + trailerWidth
+  pub bytes-long : length bytes ≡ first + recordWidth * count + trailerWidth
   unfolding tail
   bytes-long =
       ap length (whole ∙ sym (append-assoc (e .front) (joined pieces count) tail))
@@ -99,7 +99,7 @@ module _ (bytes : List ℕ) (first count : ℕ) (sum : ℤ) (e : Ends bytes firs
   coefficient-small : (i : ℕ) → i < count → magnitudeOf (e .piece i .coefficient) < 2 ^ 63
   coefficient-small i h = omega (arith, e .sound i h .within)
 
-  record-reads : (i : ℕ) → i < count → Reads bytes (recordPlace recordWidth first i) 0 (recordFields (e .piece i))
+  pub record-reads : (i : ℕ) → i < count → Reads bytes (recordPlace recordWidth first i) 0 (recordFields (e .piece i))
   unfolding pieces recordBytes
   record-reads i h =
       let fields : List Field = recordFields (e .piece i) in
@@ -116,7 +116,7 @@ module _ (bytes : List ℕ) (first count : ℕ) (sum : ℤ) (e : Ends bytes firs
       (fields-read (e .front ++ joined pieces i) (s .0 ++ tail) (recordPlace recordWidth first i) 0 fields (records-long i ∙ omega arith)
       (omega (arith, k .placed), (omega (arith, k .agrees), (omega arith, (word-below (e .piece i .coefficient) (coefficient-small i h), tt)))))
 
-  coefficient-is : (i : ℕ) → i < count → coefficientsIn bytes recordWidth first i ≡ e .piece i .coefficient
+  pub coefficient-is : (i : ℕ) → i < count → coefficientsIn bytes recordWidth first i ≡ e .piece i .coefficient
   coefficient-is i h = ap fromWord (record-reads i h .1 .1 .1 .0) ∙ from-word-of (e .piece i .coefficient) (coefficient-small i h)
 
   total-is : totalOf (coefficientsIn bytes recordWidth first) count ≡ total

@@ -17,3 +17,4 @@ pub mod ReadWritten
 pub mod Unique
 pub mod ExactlyWhen
 pub mod Lines
+pub mod Handed

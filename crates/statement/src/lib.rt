@@ -5,6 +5,7 @@ use refusal::Refusal;
 mod numbers;
 mod reading;
 mod records;
+mod walking;
 mod writing;
 
 // The most records of a file.
@@ -41,6 +42,19 @@ pub struct Summary {
     pub sum: i64,
 }
 
+// What a record says of one payout.
+pub struct Payout {
+    pub place: u16,
+    pub currency: u16,
+    pub coefficient: i64,
+}
+
+// What a walk over a file's records finds at a place.
+pub enum Step {
+    Next(Payout),
+    End,
+}
+
 // The answer of a check.
 pub enum Found {
     Value(Summary),
@@ -48,4 +62,6 @@ pub enum Found {
 }
 
 pub use reading::check;
+pub use walking::place_after;
+pub use walking::step_at;
 pub use writing::write;

@@ -110,7 +110,7 @@ fn any_bad(bytes: &[u8], width: usize, first: usize, count: usize, agreed: u64) 
     false
 }
 
-fn coefficient_at(bytes: &[u8], at: usize) -> i64
+pub(crate) fn coefficient_at(bytes: &[u8], at: usize) -> i64
     requires { ⌜ at + 16 ≤ length (now bytes) ⌝ }
     ensures { λ r. ⌜ r ≡ coefficientAt (now (bytes .entry)) at ⌝ }
 {

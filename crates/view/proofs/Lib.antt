@@ -1,0 +1,2 @@
+mod Openings
+pub mod Opens
