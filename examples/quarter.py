@@ -1,7 +1,8 @@
-"""One quarter of card settlements, cut hourly or cut nightly: the same money in other batches.
+"""One quarter of card settlements, cut hourly or cut nightly: the same money in other batches; and renegotiated, with new weights from its second month on.
 
     python3 quarter.py hourly > hourly.txt
     python3 quarter.py nightly > nightly.txt
+    python3 quarter.py renegotiated > renegotiated.txt
     python3 quarter.py long LINES SUM > long.txt     a long file of postings and refunds on one book with that sum of weights
 
 The numbers are seeded, so that every run writes the same bytes.
@@ -11,6 +12,7 @@ import random
 import sys
 
 WEIGHTS = (50, 30, 15, 5)
+NEW_WEIGHTS, SECOND_MONTH = (45, 30, 15, 10), 32
 DAYS, HOURS = 90, 24
 SEED = 2023
 
@@ -41,15 +43,29 @@ def hourly():
         yield from moves(posted, refunded)
 
 
-def nightly():
-    yield "# the same quarter, a batch a night"
-    yield "open 0 " + " ".join(map(str, WEIGHTS))
+def nights_of_the_quarter():
+    """(day, cents posted, cents refunded)."""
     nights = {}
     for day, hour, posted, refunded in hours_of_the_quarter():
         night = nights.setdefault(day, [0, 0])
         night[0] += posted
         night[1] += refunded
-    for posted, refunded in nights.values():
+    return [(day, posted, refunded) for day, (posted, refunded) in nights.items()]
+
+
+def nightly():
+    yield "# the same quarter, a batch a night"
+    yield "open 0 " + " ".join(map(str, WEIGHTS))
+    for day, posted, refunded in nights_of_the_quarter():
+        yield from moves(posted, refunded)
+
+
+def renegotiated():
+    yield "# the same nights; the contract is renegotiated, with new weights from the first of the second month on"
+    yield "open 0 " + " ".join(map(str, WEIGHTS))
+    for day, posted, refunded in nights_of_the_quarter():
+        if day == SECOND_MONTH:
+            yield "card " + " ".join(map(str, NEW_WEIGHTS))
         yield from moves(posted, refunded)
 
 
@@ -76,6 +92,8 @@ def main(words):
         lines = hourly()
     elif words[:1] == ["nightly"]:
         lines = nightly()
+    elif words[:1] == ["renegotiated"]:
+        lines = renegotiated()
     elif words[:1] == ["long"] and len(words) == 3:
         lines = long(int(words[1]), int(words[2]))
     else:
