@@ -1,6 +1,7 @@
 /* One table: the library's time over plain C's for the same inputs, each row the median of several runs. First the answers are compared on
  * all inputs: a difference ends the bench with a status that is not 0. The first argument names the machine's kind for the heading. */
 #include "inputs.h"
+#include "papers.h"
 #include "rows.h"
 #include <inttypes.h>
 #include <stdio.h>
@@ -133,6 +134,7 @@ static void runs(void)
 int main(int argc, char **argv)
 {
     draw_inputs();
+    draw_papers();
     printf("bench: seed %" PRIu64 ", %s, plain C by gcc %s -O3, median of %d runs\n", SEED, argc > 1 ? argv[1] : "x86-64", __VERSION__, RUNS);
     printf("%-52s %12s %12s %9s\n", "row", "ours, ns", "plain C, ns", "ratio");
     set_modes(0);
@@ -154,6 +156,11 @@ int main(int argc, char **argv)
     row("vouchers, 10,000 over 64", LISTS, vouchers_agree, vouchers_ours, vouchers_plain);
     set_one_by_one(1);
     row("vouchers, plain C one at a time", LISTS, vouchers_agree, vouchers_ours, vouchers_plain);
+    row("read a text", TEXTS, read_agrees, read_ours, read_plain);
+    row("write a text", TEXTS, write_agrees, write_ours, write_plain);
+    row("a row of doubles", TEXTS, rows_agree, rows_ours, rows_plain);
+    row("write a statement of 4,000; a record", RECORDS, statement_agrees, statement_ours, statement_plain);
+    row("check a statement of 4,000; a record", RECORDS, check_agrees, check_ours, check_plain);
     posts(0);
     posts(1);
     runs();

@@ -19,7 +19,7 @@ void set_one_by_one(int on) { one_by_one = on; }
 void set_book(uint32_t W, int partners, int skewed, int unit)
 {
     by_unit = unit;
-    opened = (mkb_book){.currency = 0, .count = (uint8_t)partners, .net = 0};
+    opened = (mkb_book){.currency = 0, .count = (uint8_t)partners, .net = 0, .card = 1};
     draw_weights(opened.weights, W, partners, skewed);
 }
 
