@@ -415,7 +415,7 @@ def processes():
 
 def versions():
     header = (pathlib.Path(__file__).parent.parent / "c" / "morskebab.h").read_text()
-    same((morskebab.__version__, morskebab.VERSION), ("1.3.0", int(re.search(r"#define MKB_VERSION UINT32_C\((\d+)\)", header)[1])))
+    same((morskebab.__version__, morskebab.VERSION), ("2.0.0", int(re.search(r"#define MKB_VERSION UINT32_C\((\d+)\)", header)[1])))
 
 
 def main():
