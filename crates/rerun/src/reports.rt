@@ -6,7 +6,7 @@ use crate::checks::check_of;
 use crate::gathering::Gathering;
 use crate::partners::put_partners;
 use crate::tally::NUMBERS;
-use crate::tally::sum_from;
+use crate::tally::count_from;
 use book::Book;
 use console::put_named;
 use lines::put_bytes;
@@ -153,8 +153,8 @@ pub(crate) fn put_report(out: &mut [u8], at: usize, account: Account, lines: Gat
     let book = account.book;
     let times = account.tally.times;
     let first = account.tally.first;
-    let refused = sum_from(&times, 1);
-    if is_silent(opening, sum_from(&times, 0), lines.unknown) {
+    let refused = count_from(times, 1);
+    if is_silent(opening, count_from(times, 0), lines.unknown) {
         return Report {
             at,
             failed: false,

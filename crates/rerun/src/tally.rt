@@ -41,6 +41,11 @@ pub(crate) fn sum_from(numbers: &[u64], from: usize) -> u64 {
     sum
 }
 
+// How many calls got a number from this one on.
+pub(crate) fn count_from(times: [u64; NUMBERS], number: usize) -> u64 {
+    sum_from(&times, number)
+}
+
 // Counts a number. A call that can't wait is counted before those that do, so that an earlier line may come later.
 fn count_number(times: &mut [u64; NUMBERS], first: &mut [u64; NUMBERS], number: u8, line: u64) {
     let place = number as usize;
