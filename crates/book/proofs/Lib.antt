@@ -11,6 +11,7 @@ pub mod NetIs
 pub mod Demand3
 pub mod OverCards
 pub mod Quarter
+pub mod SameCards
 pub mod Broken
 pub mod ZeroBook
 pub mod Unique
