@@ -79,6 +79,8 @@ pub use numbers::amount_at;
 pub use numbers::asks_nothing;
 pub use numbers::i64_at;
 pub use numbers::next_word;
+pub use numbers::put_magnitude;
+pub use numbers::put_sign;
 pub use numbers::read_numbers;
 pub use numbers::read_weights;
 pub use numbers::u8_at;

@@ -41,7 +41,7 @@ pub fn next_word(line: &[u8], at: usize) -> Word
     word_from(line, at)
 }
 
-fn put_sign(signs: &mut [bool], place: usize, negative: bool)
+pub fn put_sign(signs: &mut [bool], place: usize, negative: bool)
     ensures { λ _. ⌜ now (signs .exit) ≡ set (now (signs .entry)) place negative ⌝ }
 {
     if place < signs.len() {
@@ -49,7 +49,7 @@ fn put_sign(signs: &mut [bool], place: usize, negative: bool)
     }
 }
 
-fn put_magnitude(values: &mut [u64], place: usize, m: u64)
+pub fn put_magnitude(values: &mut [u64], place: usize, m: u64)
     ensures { λ _. ⌜ now (values .exit) ≡ set (now (values .entry)) place m ⌝ }
 {
     if place < values.len() {

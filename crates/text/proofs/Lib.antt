@@ -11,3 +11,4 @@ pub mod ByCode
 pub mod Unique
 pub mod ExactlyWhen
 pub mod Lines
+pub mod AtPlace

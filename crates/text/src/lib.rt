@@ -2,6 +2,7 @@
 use refusal::Checked;
 
 mod codes;
+mod putting;
 mod reading;
 mod writing;
 
@@ -12,5 +13,6 @@ pub struct Written {
 }
 
 pub use codes::currency_of;
+pub use putting::put_text;
 pub use reading::read;
 pub use writing::write;

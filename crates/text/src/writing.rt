@@ -18,7 +18,7 @@ ghost use Rattle.text.specs.Grammar.{minus, pointed};
 ghost use Rattle.text.specs.Written.{lastDigits, spelled, textOf, roomSaid, writeSaid, Writes};
 
 // How many bytes the text of a magnitude has.
-fn length_of(negative: bool, m: u64, scale: u8) -> usize
+pub(crate) fn length_of(negative: bool, m: u64, scale: u8) -> usize
     requires { ⌜ scale ≤ 6 ⌝ }
     ensures { λ r. ⌜ r ≡ length (spelled negative m scale) ⌝ }
 {
@@ -53,7 +53,7 @@ fn put_fraction(out: &mut [u8], at: usize, scale: u8, m: u64)
 }
 
 // The text of a magnitude in front of a buffer that has room for it.
-fn put(out: &mut [u8], negative: bool, m: u64, scale: u8)
+pub(crate) fn put(out: &mut [u8], negative: bool, m: u64, scale: u8)
     requires { ⌜ (scale ≤ 6) × (length (spelled negative m scale) ≤ length (now out)) ⌝ }
     ensures { λ _. ⌜ now (out .exit) ≡ putAt (now (out .entry)) 0 (spelled negative m scale) ⌝ }
 {
