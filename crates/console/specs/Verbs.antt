@@ -1,10 +1,12 @@
--- The words that a line may begin with, as lists of their bytes, and how many numbers stand behind each. Cited by `verb_of` and `takes`.
+-- The words that a line may begin with, as lists of their bytes, and how many numbers stand behind each. Cited by `verb_of`, `form_of` and `takes`.
 -- Assumes nothing.
 use mathlib.Core.Bool.{Bool, true, false, cond, _&&_, _||_}
 use mathlib.Core.List.{List, [], _∷_}
 use Prim.Native.Nat.{ℕ}
 use lib.Dec.{eqb, leb}
 use lib.ListN.{length}
+use Rattle.spoken.specs.declared.Form.{Form}
+use Rattle.spoken.specs.declared.Kind.the-variants.{Plain, Unit, Money}
 use Rattle.console.specs.declared.Verb.{Verb}
 use Rattle.console.specs.declared.Verb.the-variants.{
   Round,
@@ -28,6 +30,8 @@ use Rattle.console.specs.declared.Verb.the-variants.{
   Totals,
   Card,
   Settled,
+  Read,
+  Write,
   Unknown,
 }
 
@@ -37,21 +41,23 @@ sameBytes [] (b ∷ bs) = false
 sameBytes (a ∷ rest) [] = false
 sameBytes (a ∷ rest) (b ∷ bs) = eqb a b && sameBytes rest bs
 
--- post, open, card
+-- post, open, read, card
 abbrev pub ofFour : List ℕ → Verb
 ofFour word =
     cond (sameBytes word (112 ∷ 111 ∷ 115 ∷ 116 ∷ [])) Post
     (cond (sameBytes word (111 ∷ 112 ∷ 101 ∷ 110 ∷ [])) Open
+    (cond (sameBytes word (114 ∷ 101 ∷ 97 ∷ 100 ∷ [])) Read
     (cond (sameBytes word (99 ∷ 97 ∷ 114 ∷ 100 ∷ [])) Card
-    Unknown))
+    Unknown)))
 
--- round, order, share
+-- round, order, share, write
 abbrev pub ofFive : List ℕ → Verb
 ofFive word =
     cond (sameBytes word (114 ∷ 111 ∷ 117 ∷ 110 ∷ 100 ∷ [])) Round
     (cond (sameBytes word (111 ∷ 114 ∷ 100 ∷ 101 ∷ 114 ∷ [])) Order
     (cond (sameBytes word (115 ∷ 104 ∷ 97 ∷ 114 ∷ 101 ∷ [])) Share
-    Unknown))
+    (cond (sameBytes word (119 ∷ 114 ∷ 105 ∷ 116 ∷ 101 ∷ [])) Write
+    Unknown)))
 
 -- refund, negate, totals, export
 abbrev pub ofSix : List ℕ → Verb
@@ -98,8 +104,36 @@ verbOf word =
     (cond (eqb (length word) 8) (ofEight word)
     (ofOthers word)))))
 
+-- "Wherever `CUR SCALE COEF` stands in a line ... and wherever `CUR` stands alone (`open`, the target of `convert`, `read` ..)": what the first number of
+-- each is, and the fourth
+abbrev pub formOf : Verb → Form
+formOf Round = record { first = Plain; fourth = Plain }
+formOf Sum = record { first = Money; fourth = Money }
+formOf Order = record { first = Money; fourth = Money }
+formOf Negate = record { first = Money; fourth = Plain }
+formOf Rescale = record { first = Money; fourth = Plain }
+formOf Convert = record { first = Money; fourth = Unit }
+formOf Interest = record { first = Money; fourth = Plain }
+formOf TaxNet = record { first = Money; fourth = Plain }
+formOf TaxGross = record { first = Money; fourth = Plain }
+formOf NetFor = record { first = Money; fourth = Plain }
+formOf Row = record { first = Unit; fourth = Plain }
+formOf Export = record { first = Money; fourth = Plain }
+formOf Share = record { first = Money; fourth = Plain }
+formOf Vouchers = record { first = Plain; fourth = Plain }
+formOf Compound = record { first = Money; fourth = Plain }
+formOf Open = record { first = Unit; fourth = Plain }
+formOf Post = record { first = Money; fourth = Plain }
+formOf Refund = record { first = Money; fourth = Plain }
+formOf Totals = record { first = Plain; fourth = Plain }
+formOf Card = record { first = Plain; fourth = Plain }
+formOf Settled = record { first = Plain; fourth = Plain }
+formOf Read = record { first = Unit; fourth = Plain }
+formOf Write = record { first = Money; fourth = Plain }
+formOf Unknown = record { first = Plain; fourth = Plain }
+
 -- "`share` and `open` take any count of weights", and so do vouchers and a card; "`round MODE N D` stays, and is N x 1 / D"; `convert` "without STEP
--- it is 3"
+-- it is 3"; a text, which is no number, stands behind `read`
 abbrev pub takesOf : Verb → (count : ℕ) → Bool
 takesOf Round count = eqb count 3 || eqb count 4
 takesOf Sum count = eqb count 6
@@ -122,4 +156,6 @@ takesOf Refund count = eqb count 3
 takesOf Totals count = eqb count 0
 takesOf Card count = true
 takesOf Settled count = eqb count 0
+takesOf Read count = false
+takesOf Write count = eqb count 4
 takesOf Unknown count = false

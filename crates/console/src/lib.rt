@@ -53,6 +53,8 @@ pub enum Verb {
     Totals,
     Card,
     Settled,
+    Read,
+    Write,
     Unknown,
 }
 
@@ -75,5 +77,6 @@ pub use outs::put_named;
 pub use outs::write_out;
 pub use starts::end_with;
 pub use starts::open_source;
+pub use verbs::form_of;
 pub use verbs::takes;
 pub use verbs::verb_of;

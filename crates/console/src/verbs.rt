@@ -1,10 +1,12 @@
 // The words that a line may begin with, and how many numbers stand behind each.
 use crate::Verb;
 use check::same;
+use spoken::Form;
+use spoken::Kind;
 ghost use mathlib.Core.Path.{_≡_};
 ghost use mathlib.Core.Bool.{_||_};
 ghost use lib.Dec.{eqb};
-ghost use Rattle.console.specs.Verbs.{ofFour, ofFive, ofSix, ofSeven, ofEight, ofOthers, verbOf, takesOf};
+ghost use Rattle.console.specs.Verbs.{ofFour, ofFive, ofSix, ofSeven, ofEight, ofOthers, verbOf, formOf, takesOf};
 
 fn of_four(word: &[u8]) -> Verb
     ensures { λ r. ⌜ r ≡ ofFour (now (word .entry)) ⌝ }
@@ -14,6 +16,9 @@ fn of_four(word: &[u8]) -> Verb
     }
     if same(word, b"open") {
         return Verb::Open;
+    }
+    if same(word, b"read") {
+        return Verb::Read;
     }
     if same(word, b"card") {
         return Verb::Card;
@@ -32,6 +37,9 @@ fn of_five(word: &[u8]) -> Verb
     }
     if same(word, b"share") {
         return Verb::Share;
+    }
+    if same(word, b"write") {
+        return Verb::Write;
     }
     Verb::Unknown
 }
@@ -119,6 +127,44 @@ pub fn verb_of(word: &[u8]) -> Verb
     }
 }
 
+fn form(first: Kind, fourth: Kind) -> Form
+    ensures { λ r. ⌜ r ≡ record { first = first; fourth = fourth } ⌝ }
+{
+    Form { first, fourth }
+}
+
+// Where a currency or an amount stands among a verb's numbers.
+pub fn form_of(verb: Verb) -> Form
+    ensures { λ r. ⌜ r ≡ formOf verb ⌝ }
+{
+    match verb {
+        Verb::Round => form(Kind::Plain, Kind::Plain),
+        Verb::Sum => form(Kind::Money, Kind::Money),
+        Verb::Order => form(Kind::Money, Kind::Money),
+        Verb::Negate => form(Kind::Money, Kind::Plain),
+        Verb::Rescale => form(Kind::Money, Kind::Plain),
+        Verb::Convert => form(Kind::Money, Kind::Unit),
+        Verb::Interest => form(Kind::Money, Kind::Plain),
+        Verb::TaxNet => form(Kind::Money, Kind::Plain),
+        Verb::TaxGross => form(Kind::Money, Kind::Plain),
+        Verb::NetFor => form(Kind::Money, Kind::Plain),
+        Verb::Row => form(Kind::Unit, Kind::Plain),
+        Verb::Export => form(Kind::Money, Kind::Plain),
+        Verb::Share => form(Kind::Money, Kind::Plain),
+        Verb::Vouchers => form(Kind::Plain, Kind::Plain),
+        Verb::Compound => form(Kind::Money, Kind::Plain),
+        Verb::Open => form(Kind::Unit, Kind::Plain),
+        Verb::Post => form(Kind::Money, Kind::Plain),
+        Verb::Refund => form(Kind::Money, Kind::Plain),
+        Verb::Totals => form(Kind::Plain, Kind::Plain),
+        Verb::Card => form(Kind::Plain, Kind::Plain),
+        Verb::Settled => form(Kind::Plain, Kind::Plain),
+        Verb::Read => form(Kind::Unit, Kind::Plain),
+        Verb::Write => form(Kind::Money, Kind::Plain),
+        Verb::Unknown => form(Kind::Plain, Kind::Plain),
+    }
+}
+
 // Whether a count is one of two.
 fn is_either(count: usize, few: usize, more: usize) -> bool
     ensures { λ r. ⌜ r ≡ (eqb count few || eqb count more) ⌝ }
@@ -156,6 +202,8 @@ pub fn takes(verb: Verb, count: usize) -> bool
         Verb::Totals => count == 0,
         Verb::Card => true,
         Verb::Settled => count == 0,
+        Verb::Read => false,
+        Verb::Write => count == 4,
         Verb::Unknown => false,
     }
 }

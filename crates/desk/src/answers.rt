@@ -3,9 +3,12 @@ use amount::Amount;
 use amount::Order;
 use book::Book;
 use console::put_named;
+use currency::Currency;
+use currency::line_of;
 use lines::put_bytes;
 use lines::put_number;
 use refusal::Refusal;
+use text::put_text;
 use whole::is_negative;
 use whole::magnitude;
 
@@ -23,8 +26,20 @@ pub enum Reply {
     Ordered(Order),
 }
 
+// How the coefficients of an answer are put: as texts at a scale where the line's first currency, or the book's, was given by its code; else as
+// numbers.
+pub struct Style {
+    pub coded: bool,
+    pub scale: u8,
+}
+
 pub(crate) fn put_unknown(out: &mut [u8], at: usize) -> usize {
     put_bytes(out, at, b"?")
+}
+
+// The number of a refused text.
+pub(crate) fn put_refused_text(out: &mut [u8], at: usize, number: u8) -> usize {
+    put_named(out, at, b"! ", number as u64)
 }
 
 // The refusal's number, and which of two dates it blames.
@@ -43,9 +58,42 @@ pub(crate) fn put_whole(out: &mut [u8], at: usize, n: i64) -> usize {
     put_number(out, behind, is_negative(n), magnitude(n))
 }
 
-fn put_amount(out: &mut [u8], at: usize, amount: Amount) -> usize {
-    let behind = put_named(out, at, b"= ", amount.currency.0 as u64);
-    let behind = put_named(out, behind, b" ", amount.scale as u64);
+// A space and a coefficient.
+pub(crate) fn put_coefficient(out: &mut [u8], at: usize, style: Style, n: i64) -> usize {
+    let behind = put_bytes(out, at, b" ");
+    put_units(out, behind, style, is_negative(n), magnitude(n))
+}
+
+fn put_units(out: &mut [u8], at: usize, style: Style, negative: bool, m: u64) -> usize {
+    if style.coded {
+        return put_text(out, at, negative, m, style.scale);
+    }
+    put_number(out, at, negative, m)
+}
+
+// A space and a payout.
+fn put_payout(out: &mut [u8], at: usize, style: Style, n: u64) -> usize {
+    let behind = put_bytes(out, at, b" ");
+    put_units(out, behind, style, false, n)
+}
+
+// A space and a currency's code.
+fn put_code(out: &mut [u8], at: usize, currency: Currency) -> usize {
+    let behind = put_bytes(out, at, b" ");
+    let line = line_of(currency);
+    let code = line.code;
+    put_bytes(out, behind, &code)
+}
+
+fn put_amount(out: &mut [u8], at: usize, coded: bool, amount: Amount) -> usize {
+    let scale = amount.scale;
+    let behind = put_bytes(out, at, b"=");
+    if coded {
+        let behind = put_code(out, behind, amount.currency);
+        return put_coefficient(out, behind, Style { coded, scale }, amount.coefficient);
+    }
+    let behind = put_named(out, behind, b" ", amount.currency.0 as u64);
+    let behind = put_named(out, behind, b" ", scale as u64);
     put_whole(out, behind, amount.coefficient)
 }
 
@@ -57,7 +105,7 @@ fn put_order(out: &mut [u8], at: usize, order: Order) -> usize {
     }
 }
 
-pub(crate) fn put_reply(out: &mut [u8], at: usize, reply: Reply) -> usize {
+pub(crate) fn put_reply(out: &mut [u8], at: usize, style: Style, reply: Reply) -> usize {
     match reply {
         Reply::Unknown => put_unknown(out, at),
         Reply::Refused(refusal) => put_refused(out, at, refusal),
@@ -67,13 +115,13 @@ pub(crate) fn put_reply(out: &mut [u8], at: usize, reply: Reply) -> usize {
         },
         Reply::Two(one, other) => {
             let behind = put_bytes(out, at, b"=");
-            let behind = put_whole(out, behind, one);
-            put_whole(out, behind, other)
+            let behind = put_coefficient(out, behind, style, one);
+            put_coefficient(out, behind, style, other)
         },
         Reply::Bits(bits) => put_named(out, at, b"= ", bits),
-        Reply::Value(amount) => put_amount(out, at, amount),
+        Reply::Value(amount) => put_amount(out, at, style.coded, amount),
         Reply::Interest(amount, days) => {
-            let behind = put_amount(out, at, amount);
+            let behind = put_amount(out, at, style.coded, amount);
             put_named(out, behind, b" ", days as u64)
         },
         Reply::Ordered(order) => put_order(out, at, order),
@@ -81,32 +129,49 @@ pub(crate) fn put_reply(out: &mut [u8], at: usize, reply: Reply) -> usize {
 }
 
 // One number for each of a book's places.
-pub(crate) fn put_places(out: &mut [u8], at: usize, numbers: [u64; Book::PARTNERS]) -> usize {
+pub(crate) fn put_places(
+    out: &mut [u8],
+    at: usize,
+    style: Style,
+    numbers: [u64; Book::PARTNERS],
+) -> usize {
     let mut behind = at;
     let mut i = 0;
     while i < Book::PARTNERS {
-        behind = put_named(out, behind, b" ", numbers[i]);
+        behind = put_payout(out, behind, style, numbers[i]);
         i += 1;
     }
     behind
 }
 
 // The first of the numbers, as many as are asked for.
-pub(crate) fn put_list(out: &mut [u8], at: usize, numbers: &[i64], count: usize) -> usize {
+pub(crate) fn put_list(
+    out: &mut [u8],
+    at: usize,
+    style: Style,
+    numbers: &[i64],
+    count: usize,
+) -> usize {
     let mut behind = at;
     let mut i = 0;
     while i < count {
         if numbers.len() <= i {
             return behind;
         }
-        behind = put_whole(out, behind, numbers[i]);
+        behind = put_coefficient(out, behind, style, numbers[i]);
         i += 1;
     }
     behind
 }
 
 // The first of the shares.
-pub(crate) fn put_shares(out: &mut [u8], at: usize, shares: &[i64], count: usize) -> usize {
+pub(crate) fn put_shares(
+    out: &mut [u8],
+    at: usize,
+    style: Style,
+    shares: &[i64],
+    count: usize,
+) -> usize {
     let behind = put_bytes(out, at, b"=");
-    put_list(out, behind, shares, count)
+    put_list(out, behind, style, shares, count)
 }

@@ -1,5 +1,6 @@
 // The calls that need no book: each takes its numbers and calls the library.
 use crate::answers::Reply;
+use crate::answers::Style;
 use crate::answers::put_refused;
 use crate::answers::put_shares;
 use amount::Amount;
@@ -50,7 +51,7 @@ pub(crate) fn quotient_of(signs: &[bool], values: &[u64], count: usize) -> Reply
     }
 }
 
-fn reply_of(answer: Answer) -> Reply {
+pub(crate) fn reply_of(answer: Answer) -> Reply {
     match answer {
         Answer::Refused(refusal) => Reply::Refused(refusal),
         Answer::Value(amount) => Reply::Value(amount),
@@ -147,6 +148,7 @@ pub(crate) fn net_for(signs: &[bool], values: &[u64]) -> Reply {
 // The shares of an amount by the numbers behind it, of which there are `count` with it.
 pub(crate) fn share_of(
     amount: Amount,
+    style: Style,
     signs: &[bool],
     values: &[u64],
     count: usize,
@@ -158,6 +160,6 @@ pub(crate) fn share_of(
     let mut shares = [0i64; MOST];
     match share(amount, &weights[0..partners], &mut shares) {
         Checked::Refused(refusal) => put_refused(out, at, refusal),
-        Checked::Passed => put_shares(out, at, &shares, partners),
+        Checked::Passed => put_shares(out, at, style, &shares, partners),
     }
 }

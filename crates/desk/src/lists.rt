@@ -1,4 +1,5 @@
 // The calls of document 02 that write a lent list: all its places are put, so that one that should have stayed is seen.
+use crate::answers::Style;
 use crate::answers::put_refused;
 use crate::answers::put_shares;
 use amount::Amount;
@@ -26,7 +27,7 @@ const PLACE_BEFORE: u32 = 77;
 const WEIGHTS: usize = MOST_WEIGHTS + 1;
 
 // The places that a line asks for: one over the limit, or below 0, is the limit.
-fn room_at(signs: &[bool], values: &[u64], place: usize, most: usize) -> usize {
+pub(crate) fn room_at(signs: &[bool], values: &[u64], place: usize, most: usize) -> usize {
     let room = u64_at(signs, values, place);
     if most as u64 <= room {
         most
@@ -40,6 +41,7 @@ fn put_table(
     principal: Amount,
     rate: u32,
     periods: u32,
+    style: Style,
     rows: &mut [i64],
     room: usize,
     out: &mut [u8],
@@ -50,17 +52,23 @@ fn put_table(
     }
     match compound(principal, rate, periods, &mut rows[..room]) {
         Checked::Refused(refusal) => put_refused(out, at, refusal),
-        Checked::Passed => put_shares(out, at, rows, room),
+        Checked::Passed => put_shares(out, at, style, rows, room),
     }
 }
 
-pub(crate) fn compound_of(signs: &[bool], values: &[u64], out: &mut [u8], at: usize) -> usize {
+pub(crate) fn compound_of(
+    style: Style,
+    signs: &[bool],
+    values: &[u64],
+    out: &mut [u8],
+    at: usize,
+) -> usize {
     let principal = amount_at(signs, values, 0);
     let rate = u32_at(signs, values, 3);
     let periods = u32_at(signs, values, 4);
     let room = room_at(signs, values, 5, ROWS);
     let mut rows = [ROW_BEFORE; ROWS];
-    put_table(principal, rate, periods, &mut rows, room, out, at)
+    put_table(principal, rate, periods, style, &mut rows, room, out, at)
 }
 
 // The first of the places, as many as are asked for.

@@ -5,6 +5,7 @@ mod books;
 mod calls;
 mod columns;
 mod lists;
+mod texts;
 mod turns;
 
 use console::Source;

@@ -1,8 +1,8 @@
 // Line by line from a file to standard output: the bytes that are held and the answers that wait have a buffer each.
 use crate::answers::put_unknown;
 use crate::asking::answer;
+use crate::books::Current;
 use crate::books::no_book;
-use book::Book;
 use console::FAILED;
 use console::Feed;
 use console::WELL;
@@ -21,8 +21,7 @@ const ANSWER: usize = 5_000;
 pub struct Desk {
     pub feed: Feed,
     pub waiting: Waiting,
-    // the current book
-    pub book: Book,
+    pub current: Current,
     // there may be more to do
     pub open: bool,
 }
@@ -34,18 +33,18 @@ fn first_desk() -> Desk {
             at: 0,
             failed: false,
         },
-        book: no_book(),
+        current: no_book(),
         open: true,
     }
 }
 
 // With a line's answer behind those that wait.
 fn put_answer(mut desk: Desk, line: &[u8], out: &mut [u8]) -> Desk {
-    let book = desk.book;
-    let answered = answer(line, book, out, desk.waiting.at);
-    let next = answered.book;
+    let current = desk.current;
+    let answered = answer(line, current, out, desk.waiting.at);
+    let next = answered.current;
     let behind = put_bytes(out, answered.at, b"\n");
-    desk.book = next;
+    desk.current = next;
     desk.waiting.at = behind;
     desk
 }

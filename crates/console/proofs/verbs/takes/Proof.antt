@@ -76,6 +76,12 @@ enum-told-21 c = search needs
 enum-told-22 : tie.Need-enum-told-22
 enum-told-22 c = search needs
 
+enum-told-23 : tie.Need-enum-told-23
+enum-told-23 c = search needs
+
+enum-told-24 : tie.Need-enum-told-24
+enum-told-24 c = search needs
+
 returns : tie.Need-returns
 returns c = c .is-either .ensures ∙ sym (rw (c .before .enum-told .given .1))
 
@@ -142,6 +148,12 @@ returns-21 c = rw (c .enum-told21 .given .1)
 returns-22 : tie.Need-returns-22
 returns-22 c = rw (c .enum-told22 .given .1)
 
+returns-23 : tie.Need-returns-23
+returns-23 c = rw (c .enum-told23 .given .1)
+
+returns-24 : tie.Need-returns-24
+returns-24 c = rw (c .enum-told24 .given .1)
+
 pub takes-spec : {M : Type 1} → statement M
 takes-spec =
     tie.close
@@ -170,6 +182,8 @@ takes-spec =
     enum-told-20
     enum-told-21
     enum-told-22
+    enum-told-23
+    enum-told-24
     returns
     returns-2
     returns-3
@@ -191,4 +205,6 @@ takes-spec =
     returns-19
     returns-20
     returns-21
-    returns-22)
+    returns-22
+    returns-23
+    returns-24)

@@ -7,10 +7,10 @@ use Rattle.desk.proofs.answers.put_list.Statement.{statement}
 use Rattle.desk.proofs.answers.put_list.Tie as tie
 
 abbrev Inv-loop : tie.InvT-loop
-Inv-loop out₀ at numbers count behind₀ i₀ out behind i = length out ≡ length out₀
+Inv-loop out₀ at style numbers count behind₀ i₀ out behind i = length out ≡ length out₀
 
 abbrev μ-loop : tie.MeasureT-loop
-μ-loop out₀ at numbers count behind₀ i₀ out behind i = count - i
+μ-loop out₀ at style numbers count behind₀ i₀ out behind i = count - i
 
 loop-holds : tie.Need-loop-holds Inv-loop μ-loop
 loop-holds c = search needs
@@ -21,14 +21,14 @@ same-length c = search needs
 returns : tie.Need-returns Inv-loop μ-loop
 returns c = search needs
 
-mul-put-whole : tie.Need-mul-put-whole Inv-loop μ-loop
-mul-put-whole c = search needs
+mul-put-coefficient : tie.Need-mul-put-coefficient Inv-loop μ-loop
+mul-put-coefficient c = search needs
 
-shared-slice-copy-out-put-whole : tie.Need-shared-slice-copy-out-put-whole Inv-loop μ-loop
-shared-slice-copy-out-put-whole c = search needs
+shared-slice-copy-out-put-coefficient : tie.Need-shared-slice-copy-out-put-coefficient Inv-loop μ-loop
+shared-slice-copy-out-put-coefficient c = search needs
 
-put-whole-requires : tie.Need-put-whole-requires Inv-loop μ-loop
-put-whole-requires c κs = search needs
+put-coefficient-requires : tie.Need-put-coefficient-requires Inv-loop μ-loop
+put-coefficient-requires c κs = search needs
 
 add-i : tie.Need-add-i Inv-loop μ-loop
 add-i c = search needs
@@ -54,9 +54,9 @@ put-list-spec =
     loop-holds
     same-length
     returns
-    mul-put-whole
-    shared-slice-copy-out-put-whole
-    put-whole-requires
+    mul-put-coefficient
+    shared-slice-copy-out-put-coefficient
+    put-coefficient-requires
     add-i
     loop-less
     loop-again

@@ -7,25 +7,22 @@ use Rattle.desk.proofs.answers.put_places.Statement.{statement}
 use Rattle.desk.proofs.answers.put_places.Tie as tie
 
 abbrev Inv-loop : tie.InvT-loop
-Inv-loop out₀ at numbers behind₀ i₀ t7 out behind i = length out ≡ length out₀
+Inv-loop out₀ at style numbers behind₀ i₀ out behind i = length out ≡ length out₀
 
 abbrev μ-loop : tie.MeasureT-loop
-μ-loop out₀ at numbers behind₀ i₀ t7 out behind i = 16 - i
+μ-loop out₀ at style numbers behind₀ i₀ out behind i = 16 - i
 
 loop-holds : tie.Need-loop-holds Inv-loop μ-loop
 loop-holds c = search needs
 
-slice-aggregate-put-named : tie.Need-slice-aggregate-put-named Inv-loop μ-loop
-slice-aggregate-put-named c = search needs
+mul-put-payout : tie.Need-mul-put-payout Inv-loop μ-loop
+mul-put-payout c = search needs
 
-mul-put-named : tie.Need-mul-put-named Inv-loop μ-loop
-mul-put-named c = search needs
+array-read-put-payout : tie.Need-array-read-put-payout Inv-loop μ-loop
+array-read-put-payout c = search needs
 
-array-read-put-named : tie.Need-array-read-put-named Inv-loop μ-loop
-array-read-put-named c = search needs
-
-put-named-requires : tie.Need-put-named-requires Inv-loop μ-loop
-put-named-requires c κs = search needs
+put-payout-requires : tie.Need-put-payout-requires Inv-loop μ-loop
+put-payout-requires c κs = search needs
 
 add-i : tie.Need-add-i Inv-loop μ-loop
 add-i c = search needs
@@ -49,10 +46,9 @@ put-places-spec =
     Inv-loop
     μ-loop
     loop-holds
-    slice-aggregate-put-named
-    mul-put-named
-    array-read-put-named
-    put-named-requires
+    mul-put-payout
+    array-read-put-payout
+    put-payout-requires
     add-i
     loop-less
     loop-again
