@@ -48,8 +48,6 @@ pub struct Rerun {
     pub at: Gathering,
     pub account: Account,
     pub reports: Reports,
-    // how many of the calls that wait were served at the end of the stretch
-    pub due: usize,
 }
 
 // The amounts that may wait: those of an open book's currency at its own digits. Without a book none may, since every call is refused.
@@ -253,7 +251,6 @@ fn first_rerun() -> Rerun {
         at: first_gathering(),
         account: no_account(Opening::Nothing),
         reports,
-        due: 0,
     }
 }
 
@@ -267,30 +264,16 @@ fn goes_on(rerun: Rerun) -> bool {
     if let Met::End = met { false } else { true }
 }
 
-// With a stretch of lines gathered, and the calls served that can wait no more.
-fn run_stretch(
+// With what a stretch ended at dealt with: so many of the calls that waited were served.
+fn end_stretch(
+    fd: i32,
     mut rerun: Rerun,
-    text: &[u8],
-    refunds: &mut [bool],
-    coefficients: &mut [i64],
-    lines: &mut [u64],
-    payouts: &mut [u64],
-    numbers: &mut [u8],
+    at: Gathering,
+    account: Account,
+    due: usize,
+    text: &mut [u8],
+    out: &mut [u8],
 ) -> Rerun {
-    let at = rerun.at;
-    let account = rerun.account;
-    let at = gather(text, own_of(account), at, refunds, coefficients, lines);
-    let due = due_calls(at);
-    rerun.at = at;
-    rerun.due = due;
-    rerun.account = run_calls(account, due, refunds, coefficients, lines, payouts, numbers);
-    rerun
-}
-
-// With what the stretch ended at dealt with.
-fn end_stretch(fd: i32, mut rerun: Rerun, text: &mut [u8], out: &mut [u8]) -> Rerun {
-    let at = rerun.at;
-    let account = rerun.account;
     let reports = rerun.reports;
     let reports = say(reports, at.lines);
     let next = go_on(at, account, text);
@@ -298,36 +281,18 @@ fn end_stretch(fd: i32, mut rerun: Rerun, text: &mut [u8], out: &mut [u8]) -> Re
     let ends = ends_part(met, account.book.card, next.book.card);
     rerun.reports = report(reports, at, account, ends, out);
     rerun.account = next;
-    rerun.at = move_on(fd, at, rerun.due, ends, text);
+    rerun.at = move_on(fd, at, due, ends, text);
     rerun
 }
 
-fn turn(
-    fd: i32,
-    rerun: Rerun,
-    text: &mut [u8],
-    out: &mut [u8],
-    refunds: &mut [bool],
-    coefficients: &mut [i64],
-    lines: &mut [u64],
-    payouts: &mut [u64],
-    numbers: &mut [u8],
-) -> Rerun {
-    let next = run_stretch(rerun, text, refunds, coefficients, lines, payouts, numbers);
-    end_stretch(fd, next, text, out)
-}
-
-// A proved loop has to end, and nothing says that a file does: the turns are counted down from a number that no run uses up.
-fn run_all(
-    fd: i32,
-    text: &mut [u8],
-    out: &mut [u8],
-    refunds: &mut [bool],
-    coefficients: &mut [i64],
-    lines: &mut [u64],
-    payouts: &mut [u64],
-    numbers: &mut [u8],
-) -> Rerun {
+// Stretch by stretch: calls are gathered, and served where they can wait no more. A proved loop has to end, and nothing says that a file does: the
+// turns are counted down from a number that no run uses up.
+fn run_all(fd: i32, text: &mut [u8], out: &mut [u8]) -> Rerun {
+    let mut refunds = [false; CALLS];
+    let mut coefficients = [0i64; CALLS];
+    let mut lines = [0u64; CALLS];
+    let mut payouts = [0u64; PAYOUTS];
+    let mut numbers = [0u8; CALLS];
     let mut rerun = first_rerun();
     let mut turns = u64::MAX;
     while goes_on(rerun) {
@@ -335,17 +300,21 @@ fn run_all(
             return rerun;
         }
         turns -= 1;
-        rerun = turn(
-            fd,
-            rerun,
-            text,
-            out,
-            refunds,
-            coefficients,
-            lines,
-            payouts,
-            numbers,
+        let account = rerun.account;
+        let from = rerun.at;
+        let own = own_of(account);
+        let at = gather(text, own, from, &mut refunds, &mut coefficients, &mut lines);
+        let due = due_calls(at);
+        let ran = run_calls(
+            account,
+            due,
+            &refunds,
+            &coefficients,
+            &lines,
+            &mut payouts,
+            &mut numbers,
         );
+        rerun = end_stretch(fd, rerun, at, ran, due, text, out);
     }
     rerun
 }
@@ -354,21 +323,7 @@ fn run_all(
 pub(crate) fn run_file(fd: i32) -> u8 {
     let mut text = io::large_buffer();
     let mut out = io::large_buffer();
-    let mut refunds = [false; CALLS];
-    let mut coefficients = [0i64; CALLS];
-    let mut lines = [0u64; CALLS];
-    let mut payouts = [0u64; PAYOUTS];
-    let mut numbers = [0u8; CALLS];
-    let rerun = run_all(
-        fd,
-        &mut text,
-        &mut out,
-        &mut refunds,
-        &mut coefficients,
-        &mut lines,
-        &mut payouts,
-        &mut numbers,
-    );
+    let rerun = run_all(fd, &mut text, &mut out);
     let at = rerun.at;
     let reports = rerun.reports;
     let unread = at.feed.failed;
