@@ -9,12 +9,14 @@ use amount::Amount;
 use book::Book;
 use book::Moved;
 use bulk::run;
+use console::Verb;
+use console::form_of;
 use currency::Currency;
 use intake::next_word;
-use intake::read_numbers;
 use intake::read_weights;
 use intake::u8_at;
 use refusal::Checked;
+use spoken::read_words;
 ghost use Prim.Native.Nat.{_≤_};
 
 // One weight more than a book takes: too many are refused by the library.
@@ -33,6 +35,8 @@ pub enum Opening {
 pub struct Account {
     pub opening: Opening,
     pub book: Book,
+    // its currency was given by its code
+    pub coded: bool,
     pub tally: Tally,
     pub cards: Cards,
 }
@@ -50,6 +54,7 @@ pub(crate) fn no_account(opening: Opening) -> Account {
     Account {
         opening,
         book,
+        coded: false,
         tally: no_calls(),
         cards: no_cards(),
     }
@@ -61,7 +66,10 @@ pub(crate) fn open(line: &[u8]) -> Account {
     let mut values = [0u64; NUMBERS];
     let mut weights = [0u32; WEIGHTS];
     let word = next_word(line, 0);
-    let intake::Given::Numbers(count) = read_numbers(line, word.end, &mut signs, &mut values) else {
+    let end = word.end;
+    let spoken = read_words(line, end, form_of(Verb::Open), &mut signs, &mut values);
+    let given = spoken.given;
+    let intake::Given::Numbers(count) = given else {
         return no_account(Opening::Unknown);
     };
     let partners = read_weights(&signs, &values, 1, count, &mut weights);
@@ -75,6 +83,7 @@ pub(crate) fn open(line: &[u8]) -> Account {
     Account {
         opening,
         book,
+        coded: spoken.coded,
         tally: no_calls(),
         cards: no_cards(),
     }
@@ -140,6 +149,7 @@ pub(crate) fn run_calls(
     Account {
         opening,
         book,
+        coded: account.coded,
         tally,
         cards,
     }
@@ -169,6 +179,21 @@ pub(crate) fn call_now(account: Account, refund: bool, amount: Amount, line: u64
     Account {
         opening,
         book,
+        coded: account.coded,
+        tally,
+    }
+}
+
+// With one call counted whose amount is a text that is refused with a number: it moves nothing.
+pub(crate) fn refuse_now(account: Account, number: u8, line: u64) -> Account {
+    let opening = account.opening;
+    let book = account.book;
+    let tally = account.tally;
+    let tally = count_call(tally, false, 0, line, [0; Book::PARTNERS], number);
+    Account {
+        opening,
+        book,
+        coded: account.coded,
         tally,
         cards,
     }

@@ -102,6 +102,7 @@ pub(crate) fn card_now(account: Account, text: &[u8], line: u64) -> Account {
             Account {
                 opening,
                 book,
+                coded: account.coded,
                 tally,
                 cards,
             }
@@ -112,6 +113,7 @@ pub(crate) fn card_now(account: Account, text: &[u8], line: u64) -> Account {
             Account {
                 opening,
                 book: next,
+                coded: account.coded,
                 tally: no_calls(),
                 cards,
             }

@@ -30,6 +30,8 @@ pub enum Met {
     Astray,
     // a call that can't wait: its amount is not in the book's currency at its own digits, or there is no book
     Call(bool, Amount),
+    // a call whose amount is a text that is refused with a number
+    Refused(u8),
     // a line whose end is yet to come
     More,
     // the end of the input
@@ -95,6 +97,7 @@ fn pass_line(at: Gathering, cut: Cut, asked: Asked) -> Gathering {
         Asked::Card => Met::Card,
         Asked::Astray => Met::Astray,
         Asked::Call(refund, amount) => Met::Call(refund, amount),
+        Asked::Refused(number) => Met::Refused(number),
         _ => Met::Nothing,
     };
     Gathering {

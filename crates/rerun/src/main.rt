@@ -6,6 +6,7 @@ mod checks;
 mod gathering;
 mod partners;
 mod reports;
+mod styles;
 mod tally;
 mod together;
 mod turns;

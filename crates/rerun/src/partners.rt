@@ -1,5 +1,8 @@
 // The partners of a report.
 use crate::accounts::Account;
+use crate::styles::Style;
+use crate::styles::put_units;
+use crate::styles::style_of;
 use amount::Amount;
 use book::Book;
 use console::put_named;
@@ -10,6 +13,8 @@ ghost use Prim.Native.Nat.{_<_, _≤_, _^_};
 
 // A partner's numbers.
 pub struct Partner {
+    // how its units are put
+    pub style: Style,
     pub weight: u64,
     pub paid: u64,
     pub taken: u64,
@@ -66,11 +71,13 @@ pub(crate) fn partner_of(account: Account, totals: [u64; Book::PARTNERS], place:
     requires { ⌜ place < 16 ⌝ }
 {
     let weights = account.book.weights;
+    let currency = account.book.currency;
     let payouts = account.tally.payouts;
     let weight = weights[place] as u64;
     let sum = weight_sum(weights);
     let n = product(magnitude(account.book.net), weight);
     Partner {
+        style: style_of(account.coded, currency),
         weight,
         paid: payouts[place],
         taken: payouts[Book::PARTNERS + place],
@@ -81,17 +88,19 @@ pub(crate) fn partner_of(account: Account, totals: [u64; Book::PARTNERS], place:
 }
 
 fn put_total(out: &mut [u8], at: usize, partner: Partner) -> usize {
-    let behind = put_named(out, at, b" total ", partner.total);
-    let behind = put_named(out, behind, b" least ", partner.least);
-    let behind = put_named(out, behind, b" most ", partner.most);
+    let style = partner.style;
+    let behind = put_units(out, at, b" total ", style, partner.total);
+    let behind = put_units(out, behind, b" least ", style, partner.least);
+    let behind = put_units(out, behind, b" most ", style, partner.most);
     put_bytes(out, behind, b"\n")
 }
 
 fn put_partner(out: &mut [u8], at: usize, place: usize, partner: Partner) -> usize {
     let behind = put_named(out, at, b"partner ", place as u64);
     let behind = put_named(out, behind, b" weight ", partner.weight);
-    let behind = put_named(out, behind, b" paid ", partner.paid);
-    let behind = put_named(out, behind, b" taken ", partner.taken);
+    let style = partner.style;
+    let behind = put_units(out, behind, b" paid ", style, partner.paid);
+    let behind = put_units(out, behind, b" taken ", style, partner.taken);
     put_total(out, behind, partner)
 }
 

@@ -5,6 +5,10 @@ use crate::checks::Check;
 use crate::checks::check_of;
 use crate::gathering::Gathering;
 use crate::partners::put_partners;
+use crate::styles::Style;
+use crate::styles::put_currency;
+use crate::styles::put_units;
+use crate::styles::style_of;
 use crate::tally::NUMBERS;
 use crate::tally::count_from;
 use book::Book;
@@ -34,20 +38,21 @@ fn put_weights(out: &mut [u8], at: usize, weights: [u32; Book::PARTNERS], count:
 }
 
 // A book by its currency, and its later cards by their numbers.
-fn put_part(out: &mut [u8], at: usize, book: Book) -> usize {
+fn put_part(out: &mut [u8], at: usize, book: Book, coded: bool) -> usize {
     if 1 < book.card {
         return put_named(out, at, b"card ", book.card as u64);
     }
-    put_named(out, at, b"book ", book.currency.0 as u64)
+    let currency = book.currency;
+    put_currency(out, at, b"book ", coded, currency)
 }
 
-fn put_heading(out: &mut [u8], at: usize, opening: Opening, book: Book) -> usize {
+fn put_heading(out: &mut [u8], at: usize, opening: Opening, book: Book, coded: bool) -> usize {
     match opening {
         Opening::Nothing => put_bytes(out, at, b"book none"),
         Opening::Unknown => put_bytes(out, at, b"book not understood"),
         Opening::Refused(number) => put_named(out, at, b"book refused ", number as u64),
         Opening::Accepted => {
-            let behind = put_part(out, at, book);
+            let behind = put_part(out, at, book, coded);
             let weights = book.weights;
             put_weights(out, behind, weights, book.count as usize)
         },
@@ -102,10 +107,10 @@ pub(crate) fn put_check(out: &mut [u8], at: usize, check: Check) -> usize {
     }
 }
 
-fn put_sums(out: &mut [u8], at: usize, sums: [u64; 2], net: u64) -> usize {
-    let behind = put_named(out, at, b"posted ", sums[0]);
-    let behind = put_named(out, behind, b" refunded ", sums[1]);
-    let behind = put_named(out, behind, b" net ", net);
+fn put_sums(out: &mut [u8], at: usize, style: Style, sums: [u64; 2], net: u64) -> usize {
+    let behind = put_units(out, at, b"posted ", style, sums[0]);
+    let behind = put_units(out, behind, b" refunded ", style, sums[1]);
+    let behind = put_units(out, behind, b" net ", style, net);
     put_bytes(out, behind, b"\n")
 }
 
@@ -114,7 +119,9 @@ fn put_totals(out: &mut [u8], at: usize, account: Account, blemished: bool) -> R
     let sums = account.tally.sums;
     let running = account.book.totals();
     let totals = running.totals;
-    let behind = put_sums(out, at, sums, magnitude(account.book.net));
+    let currency = account.book.currency;
+    let style = style_of(account.coded, currency);
+    let behind = put_sums(out, at, style, sums, magnitude(account.book.net));
     let behind = put_partners(out, behind, account, totals);
     let check = check_of(account, totals);
     let failed = if let Check::Well = check { false } else { true };
@@ -161,7 +168,7 @@ pub(crate) fn put_report(out: &mut [u8], at: usize, account: Account, lines: Gat
             blemished: false,
         };
     }
-    let behind = put_heading(out, at, opening, book);
+    let behind = put_heading(out, at, opening, book, account.coded);
     let behind = put_lines(out, behind, times[0], refused, lines.unknown);
     let behind = put_unknown(out, behind, lines.unknown, lines.first);
     let behind = put_numbers(out, behind, times, first);

@@ -7,6 +7,9 @@ use crate::checks::last_of;
 use crate::reports::Report;
 use crate::reports::is_accepted;
 use crate::reports::put_check;
+use crate::styles::Style;
+use crate::styles::put_units;
+use crate::styles::style_of;
 use crate::tally::sum_from;
 use book::Book;
 use console::put_named;
@@ -25,15 +28,15 @@ fn sums_of(settled: [i64; Book::PARTNERS], totals: [u64; Book::PARTNERS]) -> [u6
     sums
 }
 
-fn put_one(out: &mut [u8], at: usize, place: usize, count: u64, sum: u64) -> usize {
+fn put_one(out: &mut [u8], at: usize, style: Style, place: usize, count: u64, sum: u64) -> usize {
     let behind = put_named(out, at, b"settled ", place as u64);
     let behind = put_named(out, behind, b" cards ", count);
-    put_named(out, behind, b" together ", sum)
+    put_units(out, behind, b" together ", style, sum)
 }
 
-fn put_shares(out: &mut [u8], at: usize, least: u64, most: u64) -> usize {
-    let behind = put_named(out, at, b" least ", least);
-    let behind = put_named(out, behind, b" most ", most);
+fn put_shares(out: &mut [u8], at: usize, style: Style, least: u64, most: u64) -> usize {
+    let behind = put_units(out, at, b" least ", style, least);
+    let behind = put_units(out, behind, b" most ", style, most);
     put_bytes(out, behind, b"\n")
 }
 
@@ -41,6 +44,7 @@ fn put_shares(out: &mut [u8], at: usize, least: u64, most: u64) -> usize {
 fn put_sums(
     out: &mut [u8],
     at: usize,
+    style: Style,
     cards: Cards,
     sums: [u64; Book::PARTNERS],
     count: usize,
@@ -53,8 +57,8 @@ fn put_sums(
         if count <= i {
             return behind;
         }
-        behind = put_one(out, behind, i, cards.count, sums[i]);
-        behind = put_shares(out, behind, least[i], most[i]);
+        behind = put_one(out, behind, style, i, cards.count, sums[i]);
+        behind = put_shares(out, behind, style, least[i], most[i]);
         i += 1;
     }
     behind
@@ -95,10 +99,13 @@ fn put_cards(out: &mut [u8], put: Report, account: Account) -> Report {
     let totals = running.totals;
     let settled = account.book.settled;
     let count = account.book.count;
+    let currency = account.book.currency;
+    let style = style_of(account.coded, currency);
     let sums = sums_of(settled, totals);
     let behind = put_sums(
         out,
         put.at,
+        style,
         all_cards(account, totals),
         sums,
         count as usize,

@@ -4,6 +4,7 @@ use crate::accounts::Opening;
 use crate::accounts::call_now;
 use crate::accounts::no_account;
 use crate::accounts::open;
+use crate::accounts::refuse_now;
 use crate::accounts::run_calls;
 use crate::cards::card_now;
 use crate::gathering::CALLS;
@@ -158,6 +159,7 @@ fn go_on(at: Gathering, account: Account, text: &[u8]) -> Account {
         },
         Met::Astray => no_account(Opening::Unknown),
         Met::Call(refund, amount) => call_now(account, refund, amount, at.lines),
+        Met::Refused(number) => refuse_now(account, number, at.lines),
         _ => account,
     }
 }

@@ -7,10 +7,10 @@ use Rattle.rerun.proofs.together.put_sums.Statement.{statement}
 use Rattle.rerun.proofs.together.put_sums.Tie as tie
 
 abbrev Inv-loop : tie.InvT-loop
-Inv-loop out₀ at cards sums count least most behind₀ i₀ out behind i = length out ≡ length out₀
+Inv-loop out₀ at style cards sums count least most behind₀ i₀ out behind i = length out ≡ length out₀
 
 abbrev μ-loop : tie.MeasureT-loop
-μ-loop out₀ at cards sums count least most behind₀ i₀ out behind i = 16 - i
+μ-loop out₀ at style cards sums count least most behind₀ i₀ out behind i = 16 - i
 
 loop-holds : tie.Need-loop-holds Inv-loop μ-loop
 loop-holds c = search needs
