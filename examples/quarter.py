@@ -3,6 +3,7 @@
     python3 quarter.py hourly > hourly.txt
     python3 quarter.py nightly > nightly.txt
     python3 quarter.py renegotiated > renegotiated.txt
+    python3 quarter.py numbers hourly                the same in numbers, a currency, a scale and a coefficient, in place of codes and texts
     python3 quarter.py long LINES SUM > long.txt     a long file of postings and refunds on one book with that sum of weights
 
 The numbers are seeded, so that every run writes the same bytes.
@@ -15,6 +16,8 @@ WEIGHTS = (50, 30, 15, 5)
 NEW_WEIGHTS, SECOND_MONTH = (45, 30, 15, 10), 32
 DAYS, HOURS = 90, 24
 SEED = 2023
+# by its code, with amounts as texts, or by its number
+EURO = "EUR"
 
 
 def hours_of_the_quarter():
@@ -30,15 +33,19 @@ def hours_of_the_quarter():
 
 
 def moves(posted, refunded):
-    lines = [f"post 0 2 {posted}"]
+    lines = [f"post {euros(posted)}"]
     if refunded:
-        lines.append(f"refund 0 2 {refunded}")
+        lines.append(f"refund {euros(refunded)}")
     return lines
+
+
+def euros(cents):
+    return f"{EURO} 2 {cents}" if EURO == "0" else f"{EURO} {cents // 100}.{cents % 100:02d}"
 
 
 def hourly():
     yield "# one quarter, a batch an hour"
-    yield "open 0 " + " ".join(map(str, WEIGHTS))
+    yield f"open {EURO} " + " ".join(map(str, WEIGHTS))
     for day, hour, posted, refunded in hours_of_the_quarter():
         yield from moves(posted, refunded)
 
@@ -55,14 +62,14 @@ def nights_of_the_quarter():
 
 def nightly():
     yield "# the same quarter, a batch a night"
-    yield "open 0 " + " ".join(map(str, WEIGHTS))
+    yield f"open {EURO} " + " ".join(map(str, WEIGHTS))
     for day, posted, refunded in nights_of_the_quarter():
         yield from moves(posted, refunded)
 
 
 def renegotiated():
     yield "# the same nights; the contract is renegotiated, with new weights from the first of the second month on"
-    yield "open 0 " + " ".join(map(str, WEIGHTS))
+    yield f"open {EURO} " + " ".join(map(str, WEIGHTS))
     for day, posted, refunded in nights_of_the_quarter():
         if day == SECOND_MONTH:
             yield "card " + " ".join(map(str, NEW_WEIGHTS))
@@ -88,6 +95,9 @@ def long(lines, weight_sum):
 
 
 def main(words):
+    global EURO
+    if words[:1] == ["numbers"]:
+        EURO, words = "0", words[1:]
     if words[:1] == ["hourly"]:
         lines = hourly()
     elif words[:1] == ["nightly"]:
