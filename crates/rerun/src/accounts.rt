@@ -181,6 +181,7 @@ pub(crate) fn call_now(account: Account, refund: bool, amount: Amount, line: u64
         book,
         coded: account.coded,
         tally,
+        cards,
     }
 }
 
@@ -189,6 +190,7 @@ pub(crate) fn refuse_now(account: Account, number: u8, line: u64) -> Account {
     let opening = account.opening;
     let book = account.book;
     let tally = account.tally;
+    let cards = account.cards;
     let tally = count_call(tally, false, 0, line, [0; Book::PARTNERS], number);
     Account {
         opening,

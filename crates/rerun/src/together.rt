@@ -94,6 +94,10 @@ fn check_sums(cards: Cards, sums: [u64; Book::PARTNERS], count: u8) -> Check {
     Check::Well
 }
 
+fn partners_of(count: u8) -> usize {
+    count as usize
+}
+
 fn put_cards(out: &mut [u8], put: Report, account: Account) -> Report {
     let running = account.book.totals();
     let totals = running.totals;
@@ -108,7 +112,7 @@ fn put_cards(out: &mut [u8], put: Report, account: Account) -> Report {
         style,
         all_cards(account, totals),
         sums,
-        count as usize,
+        partners_of(count),
     );
     let check = check_sums(all_cards(account, totals), sums, count);
     let failed = if let Check::Well = check {
