@@ -14,7 +14,7 @@ from morskebab import (
     Amount, Book, Columns, Date, Moved, Ran, Refused, Split, Statement, check_statement, currency_line, currency_of, day_count, plain_quotient, take_row,
     vouchers, write_statement,
 )
-from morskebab_c import PARTNERS, CAmount, CBook
+from morskebab._c import PARTNERS, CAmount, CBook
 
 passed = 0
 

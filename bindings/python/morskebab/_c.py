@@ -92,10 +92,11 @@ FUNCTIONS = {
 
 
 def load() -> ctypes.CDLL:
-    """The library of MORSKEBAB_LIBRARY, or the one that `check` builds in the repository's target folder. ImportError where it is of another
-    version than this module."""
-    built = pathlib.Path(__file__).resolve().parents[2] / "target" / "bindings" / "libmorskebab.so"
-    library = ctypes.CDLL(os.environ.get("MORSKEBAB_LIBRARY", str(built)))
+    """The library of MORSKEBAB_LIBRARY, or the one inside the package, or, in the repository itself, the one that `check` builds in its target
+    folder. ImportError where it is of another version than this module."""
+    here = pathlib.Path(__file__).resolve().parent
+    inside, built = here / "libmorskebab.so", here.parents[2] / "target" / "bindings" / "libmorskebab.so"
+    library = ctypes.CDLL(os.environ.get("MORSKEBAB_LIBRARY", str(inside if inside.exists() else built)))
     for name, (answer, *parameters) in FUNCTIONS.items():
         function = getattr(library, name)
         function.restype = answer

@@ -26,8 +26,8 @@ from decimal import Decimal
 from enum import IntEnum
 from typing import Any, Callable, NamedTuple
 
-from morskebab_c import PARTNERS, VERSION, CAmount, CBook, CColumns, CDate, load
-from morskebab_values import REASONS, Refused, as_bytes, as_list, is_a, whole
+from ._c import PARTNERS, VERSION, CAmount, CBook, CColumns, CDate, load
+from ._values import REASONS, Refused, as_bytes, as_list, is_a, whole
 
 __version__ = f"{VERSION // 10000}.{VERSION // 100 % 100}.{VERSION % 100}"
 
