@@ -1,3 +1,4 @@
+pub mod Answers
 pub mod Apart
 pub mod Between
 pub mod Bounds
@@ -16,6 +17,7 @@ pub mod Opposite
 pub mod Order
 pub mod OverTheLimit
 pub mod PlainRows
+pub mod Short
 pub mod Table
 pub mod Threshold
 pub mod Ties

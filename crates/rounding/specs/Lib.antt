@@ -3,3 +3,5 @@ pub mod Leaf
 pub mod Product
 pub mod Plain
 pub mod Found
+pub mod Answers
+pub mod Short

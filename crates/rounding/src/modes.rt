@@ -4,7 +4,8 @@ use crate::Rest;
 use crate::Rule;
 use refusal::Refusal;
 ghost use mathlib.Core.Path.{_≡_};
-ghost use Rattle.rounding.specs.Modes.{choiceOf, someRest, fromHalf, pastHalf, toEven, risesBy};
+ghost use Rattle.rounding.specs.Modes.{choiceOf, risesBy};
+ghost use Rattle.rounding.specs.Answers.{numberOf, answersOf};
 
 // The rule of a mode number, and refusal 1 for every other number.
 pub fn rule_of(mode: u8) -> Choice
@@ -22,58 +23,38 @@ pub fn rule_of(mode: u8) -> Choice
     }
 }
 
-fn some_rest(rest: Rest) -> bool
-    ensures { λ r. ⌜ r ≡ someRest rest ⌝ }
+// The classes of a rest, counted.
+fn number(rest: Rest) -> u32
+    ensures { λ r. ⌜ r ≡ numberOf rest ⌝ }
 {
     match rest {
-        Rest::Exact => false,
-        Rest::Below => true,
-        Rest::Half => true,
-        Rest::Above => true,
+        Rest::Exact => 0,
+        Rest::Below => 1,
+        Rest::Half => 2,
+        Rest::Above => 3,
     }
 }
 
-fn from_half(rest: Rest) -> bool
-    ensures { λ r. ⌜ r ≡ fromHalf rest ⌝ }
+// The answers of a rule, a bit for each: a number below 0 with an odd and an even quotient, one that isn't with an odd and an even quotient, and
+// for each of these the rest above the half, at it, below it and none.
+fn answers(rule: Rule) -> u32
+    ensures { λ r. ⌜ r ≡ answersOf rule ⌝ }
 {
-    match rest {
-        Rest::Exact => false,
-        Rest::Below => false,
-        Rest::Half => true,
-        Rest::Above => true,
+    match rule {
+        Rule::Up => 0b1110_1110_1110_1110,
+        Rule::Down => 0b0000_0000_0000_0000,
+        Rule::Ceiling => 0b0000_0000_1110_1110,
+        Rule::Floor => 0b1110_1110_0000_0000,
+        Rule::HalfUp => 0b1100_1100_1100_1100,
+        Rule::HalfDown => 0b1000_1000_1000_1000,
+        Rule::HalfEven => 0b1100_1000_1100_1000,
     }
 }
 
-fn past_half(rest: Rest) -> bool
-    ensures { λ r. ⌜ r ≡ pastHalf rest ⌝ }
-{
-    match rest {
-        Rest::Exact => false,
-        Rest::Below => false,
-        Rest::Half => false,
-        Rest::Above => true,
-    }
-}
-
-// To the nearest, a half to the even number: an odd quotient rises from the half on, an even one past it. No branch depends on the
-// parity.
-fn to_even(odd: bool, rest: Rest) -> bool
-    ensures { λ r. ⌜ r ≡ toEven odd rest ⌝ }
-{
-    past_half(rest) | (odd & from_half(rest))
-}
-
-// Does the magnitude rise by one: from the rule, the number's sign, whether the quotient is odd, and the rest.
+// Does the magnitude rise by one: from the rule, the number's sign, whether the quotient is odd, and the rest. No branch depends on any of them.
 pub fn rises(rule: Rule, negative: bool, odd: bool, rest: Rest) -> bool
     ensures { λ r. ⌜ r ≡ risesBy rule negative odd rest ⌝ }
 {
-    match rule {
-        Rule::Up => some_rest(rest),
-        Rule::Down => false,
-        Rule::Ceiling => !negative && some_rest(rest),
-        Rule::Floor => negative && some_rest(rest),
-        Rule::HalfUp => from_half(rest),
-        Rule::HalfDown => past_half(rest),
-        Rule::HalfEven => to_even(odd, rest),
-    }
+    let question = number(rest) + 4 * odd as u32 + 8 * negative as u32;
+    (answers(rule) >> question) % 2 == 1
 }

@@ -4,7 +4,7 @@ use crate::Quotient;
 use crate::Rule;
 use crate::leaf::round;
 use crate::modes::rule_of;
-use crate::product::round_product;
+use crate::product::round_wide;
 use division::Division;
 use refusal::Checked;
 use refusal::Refusal;
@@ -56,7 +56,7 @@ fn quotient(rule: Rule, negative: bool, a: u64, b: u64, d: u64) -> u64
     if b == 1 {
         return round(rule, negative, a, d);
     }
-    round_product(rule, negative, a, b, d)
+    round_wide(rule, negative, a, b, d)
 }
 
 fn by_rule(rule: Rule, negative: bool, a: u64, b: u64, d: u64) -> Quotient

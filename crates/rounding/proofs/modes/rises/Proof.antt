@@ -1,97 +1,62 @@
--- Each rule is its line of the definition, and the last is what `to_even` promises.
+-- The question's bit of the rule's number is the definition's answer. Assumes nothing.
+use mathlib.Core.Path.{_≡_, _∙_, ap₂}
+use Prim.Native.Nat.{ℕ, _+_, _*_, _/_, _%_, _^_, _≤_}
+use native.Mathlib.Omega.{arith}
 use borrow.Author.Needs.{needs}
+use lib.Dec.{eqb}
+use Rattle.rounding.proofs.Answers.{question, one-at-most, three-at-most, answered}
 use Rattle.rounding.proofs.modes.rises.Statement.{statement}
 use Rattle.rounding.proofs.modes.rises.Tie as tie
 
-enum-told : tie.Need-enum-told
-enum-told c = search needs
+number-requires : tie.Need-number-requires
+number-requires c κs = search needs
 
-some-rest-requires : tie.Need-some-rest-requires
-some-rest-requires c κs = search needs
+cast-question : tie.Need-cast-question
+cast-question c = search needs
 
-enum-told-2 : tie.Need-enum-told-2
-enum-told-2 c = search needs
+small : (c : tie.After-number) → question (c .before .args .negative) (c .before .args .odd) (c .number .result) ≤ 15
+small c =
+    let a = c .before .args in
+    omega (arith, c .number .ensures, three-at-most (a .rest), one-at-most (a .odd), one-at-most (a .negative))
 
-enum-told-3 : tie.Need-enum-told-3
-enum-told-3 c = search needs
+mul-question : tie.Need-mul-question
+mul-question c = record { fits = omega (arith, small c) }
 
-some-rest-requires-2 : tie.Need-some-rest-requires-2
-some-rest-requires-2 c κs = search needs
+add-question : tie.Need-add-question
+add-question c = record { fits = omega (arith, small c) }
 
-enum-told-4 : tie.Need-enum-told-4
-enum-told-4 c = search needs
+cast-question-2 : tie.Need-cast-question-2
+cast-question-2 c = search needs
 
-some-rest-requires-3 : tie.Need-some-rest-requires-3
-some-rest-requires-3 c κs = search needs
+mul-question-2 : tie.Need-mul-question-2
+mul-question-2 c = record { fits = omega (arith, small c) }
 
-enum-told-5 : tie.Need-enum-told-5
-enum-told-5 c = search needs
+add-question-2 : tie.Need-add-question-2
+add-question-2 c = record { fits = omega (arith, small c) }
 
-from-half-requires : tie.Need-from-half-requires
-from-half-requires c κs = search needs
+answers-requires : tie.Need-answers-requires
+answers-requires c κs = search needs
 
-enum-told-6 : tie.Need-enum-told-6
-enum-told-6 c = search needs
-
-past-half-requires : tie.Need-past-half-requires
-past-half-requires c κs = search needs
-
-enum-told-7 : tie.Need-enum-told-7
-enum-told-7 c = search needs
-
-to-even-requires : tie.Need-to-even-requires
-to-even-requires c κs = search needs
+shr-result : tie.Need-shr-result
+shr-result c = omega (arith, small (c .before))
 
 returns : tie.Need-returns
-returns c = search needs
-
-returns-2 : tie.Need-returns-2
-returns-2 c = search needs
-
-returns-3 : tie.Need-returns-3
-returns-3 c = search needs
-
-returns-4 : tie.Need-returns-4
-returns-4 c = search needs
-
-returns-5 : tie.Need-returns-5
-returns-5 c = search needs
-
-returns-6 : tie.Need-returns-6
-returns-6 c = search needs
-
-returns-7 : tie.Need-returns-7
-returns-7 c = search needs
-
-returns-8 : tie.Need-returns-8
-returns-8 c = search needs
-
-returns-9 : tie.Need-returns-9
-returns-9 c = cc
+returns c =
+    let a = c .before .before .args in
+    ap₂ (λ (n k : ℕ). eqb (n / 2 ^ question (a .negative) (a .odd) k % 2) 1) (c .answers .ensures) (c .before .number .ensures)
+    ∙ answered (a .rule) (a .negative) (a .odd) (a .rest)
 
 pub rises-spec : {M : Type 1} → statement M
 rises-spec =
     tie.close
     (tie.spec
-    enum-told
-    some-rest-requires
-    enum-told-2
-    enum-told-3
-    some-rest-requires-2
-    enum-told-4
-    some-rest-requires-3
-    enum-told-5
-    from-half-requires
-    enum-told-6
-    past-half-requires
-    enum-told-7
-    to-even-requires
-    returns
-    returns-2
-    returns-3
-    returns-4
-    returns-5
-    returns-6
-    returns-7
-    returns-8
-    returns-9)
+    number-requires
+    cast-question
+    mul-question
+    add-question
+    cast-question-2
+    mul-question-2
+    add-question-2
+    answers-requires
+    shr-result
+    returns)

@@ -9,8 +9,8 @@ use Rattle.rounding.proofs.plain.quotient.Tie as tie
 round-requires : tie.Need-round-requires
 round-requires c κs = search needs
 
-round-product-requires : tie.Need-round-product-requires
-round-product-requires c κs = search needs
+round-wide-requires : tie.Need-round-wide-requires
+round-wide-requires c κs = search needs
 
 returns : tie.Need-returns
 unfolding foundQuotient
@@ -18,7 +18,7 @@ returns c = c .round .ensures ∙ sym (rw (eq-eqb _ _ (c .before .if1 .taken)))
 
 returns-2 : tie.Need-returns-2
 unfolding foundQuotient
-returns-2 c = c .round-product .ensures ∙ sym (rw (ne-eqb _ _ (c .before .if1 .left)))
+returns-2 c = c .round-wide .ensures ∙ sym (rw (ne-eqb _ _ (c .before .if1 .left)))
 
 pub quotient-spec : {M : Type 1} → statement M
-quotient-spec = tie.close (tie.spec round-requires returns round-product-requires returns-2)
+quotient-spec = tie.close (tie.spec round-requires returns round-wide-requires returns-2)
