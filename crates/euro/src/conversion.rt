@@ -122,42 +122,48 @@ fn check(decimals: u8, scale: u8, m: u64, from: Currency, to: Currency) -> Check
 }
 
 // What passed the check: the amount itself within one currency, else the exchanged amount.
-fn accepted(decimals: u8, amount: Amount, to: Currency) -> Answer
-    requires { ⌜ checkOf (convertRows decimals (amount .scale) (magnitudeOf (amount .coefficient)) (amount .currency) to) ≡ Passed ⌝ }
-    ensures { λ r. ⌜ meansAmount r ≡ converted decimals amount to ⌝ }
+fn accepted(decimals: u8, from: Currency, scale: u8, coefficient: i64, to: Currency) -> Answer
+    requires { ⌜ checkOf (convertRows decimals scale (magnitudeOf coefficient) from to) ≡ Passed ⌝ }
+    ensures { λ r. ⌜ meansAmount r ≡ converted decimals (record { currency = from; scale = scale; coefficient = coefficient }) to ⌝ }
 {
-    let from = amount.currency;
     if from.0 == to.0 {
-        return Answer::Value(amount);
+        return Answer::Value(Amount {
+            currency: from,
+            scale,
+            coefficient,
+        });
     }
     exchange(
         decimals,
         from,
         to,
-        is_negative(amount.coefficient),
-        magnitude(amount.coefficient),
+        is_negative(coefficient),
+        magnitude(coefficient),
     )
+}
+
+// The conversion of an amount that is handed on number by number, so that none of it is written to memory and read back.
+fn by_step(decimals: u8, from: Currency, scale: u8, coefficient: i64, to: Currency) -> Answer
+    ensures { λ r. ⌜ meansAmount r ≡ convertBySaid (record { currency = from; scale = scale; coefficient = coefficient }) to decimals ⌝ }
+{
+    match check(decimals, scale, magnitude(coefficient), from, to) {
+        Checked::Refused(refusal) => Answer::Refused(refusal),
+        Checked::Passed => accepted(decimals, from, scale, coefficient, to),
+    }
 }
 
 // The amount in the currency `to`, by a euro step of so many decimals, or the refusal 2, 3, 4 or 13.
 pub fn convert_by(amount: Amount, to: Currency, decimals: u8) -> Answer
     ensures { λ r. ⌜ meansAmount r ≡ convertBySaid amount to decimals ⌝ }
 {
-    match check(
-        decimals,
-        amount.scale,
-        magnitude(amount.coefficient),
-        amount.currency,
-        to,
-    ) {
-        Checked::Refused(refusal) => Answer::Refused(refusal),
-        Checked::Passed => accepted(decimals, amount, to),
-    }
+    let from = amount.currency;
+    by_step(decimals, from, amount.scale, amount.coefficient, to)
 }
 
 // The amount in the currency `to`, by document 01's step of 3 decimals, or the refusal 2, 3, 4 or 13.
 pub fn convert(amount: Amount, to: Currency) -> Answer
     ensures { λ r. ⌜ meansAmount r ≡ convertSaid amount to ⌝ }
 {
-    convert_by(amount, to, STEP)
+    let from = amount.currency;
+    by_step(STEP, from, amount.scale, amount.coefficient, to)
 }

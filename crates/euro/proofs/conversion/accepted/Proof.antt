@@ -3,25 +3,31 @@ use mathlib.Core.Path.{_≡_, sym, _∙_, ap, ap₂}
 use Prim.Native.Nat.{ℕ, _≤_}
 use borrow.Author.Needs.{needs}
 use borrow.Author.Tests.{eq-eqb, ne-eqb, ltb-false}
-use mir.Syntax.{w64}
-use mir.Val.{SFits}
-use mir.ValLaws.{toZ-ofZ}
+use lib.IntN.{ℤ}
 use Rattle.refusal.specs.declared.Checked.the-variants.{Passed}
-use Rattle.refusal.specs.Rows.{checkOf}
+use Rattle.refusal.specs.Rows.{Said, gives, checkOf}
 use Rattle.refusal.proofs.Check.{clear}
 use Rattle.whole.specs.Whole.{negative, magnitudeOf, signedOf}
-use Rattle.whole.proofs.Laws.{sign-and-magnitude}
+use Rattle.whole.proofs.Laws.{sign-and-magnitude, read-back}
 use Rattle.currency.specs.declared.Currency.{Currency}
 use Rattle.currency.specs.Table.{lastCurrency}
+use Rattle.amount.specs.declared.Amount.{Amount}
 use Rattle.amount.specs.Amounts.{largest}
 use Rattle.euro.specs.Steps.{mostDecimals}
 use Rattle.euro.specs.Conversion.{convertRows, exchanged, converted}
 use Rattle.euro.proofs.conversion.accepted.Statement.{statement}
 use Rattle.euro.proofs.conversion.accepted.Tie as tie
 
+-- the amount unchanged
+abbrev made : tie.Start → ℤ → Said Amount
+made s z = gives (record { currency = s .args .from; scale = s .args .scale; coefficient = z })
+
 returns : tie.Need-returns
 unfolding converted
-returns c = let a = c .before .before .before .before .args in sym (rw (eq-eqb (a .amount .currency .0) (a .to .0) (c .if1 .taken)))
+returns c =
+    let s = c .before .before .before in
+    let a = s .args in
+    ap (made s) (read-back (a .coefficient) (s .fits .coefficient .sfits)) ∙ sym (rw (eq-eqb (a .from .0) (a .to .0) (c .if1 .taken)))
 
 is-negative-requires : tie.Need-is-negative-requires
 is-negative-requires c κs = search needs
@@ -44,30 +50,27 @@ within decimals scale m from to e =
 
 -- what `magnitude` and `is_negative` answered
 asked : (c : tie.After-magnitude)
-    → (c .before .before .is-negative .result ≡ negative (c .before .before .before .before .before .before .before .before .args .amount .coefficient))
-    × (c .magnitude .result ≡ magnitudeOf (c .before .before .before .before .before .before .before .before .args .amount .coefficient))
+    → let z = c .before .before .before .before .before .args .coefficient in (c .before .is-negative .result ≡ negative z) × (c .magnitude .result ≡ magnitudeOf z)
 asked c =
-    let z = c .before .before .before .before .before .before .before .before .args .amount .coefficient in
-    let fits : SFits w64 z = search needs in
-    let read = toZ-ofZ w64 z fits in
-    (c .before .before .is-negative .ensures ∙ ap negative read, c .magnitude .ensures ∙ ap magnitudeOf read)
+    let s = c .before .before .before .before .before in
+    let read = read-back (s .args .coefficient) (s .fits .coefficient .sfits) in
+    (c .before .is-negative .ensures ∙ ap negative read, c .magnitude .ensures ∙ ap magnitudeOf read)
 
 exchange-requires : tie.Need-exchange-requires
 exchange-requires c κs =
-    let s = c .before .before .before .before .before .before .before .before in
+    let s = c .before .before .before .before .before in
     let a = s .args in
-    let limits = within (a .decimals) (a .amount .scale) (magnitudeOf (a .amount .coefficient)) (a .amount .currency) (a .to) (s .pre) in
+    let limits = within (a .decimals) (a .scale) (magnitudeOf (a .coefficient)) (a .from) (a .to) (s .pre) in
     (limits .0, limits .1, limits .2, rw (asked c .1) (limits .3))
 
 returns-2 : tie.Need-returns-2
 unfolding converted
 returns-2 c =
-    let e = c .before .before .before .before .before in
-    let a = e .before .before .before .before .args in
+    let e = c .before .before .before in
+    let a = e .before .before .before .args in
     c .exchange .ensures
-    ∙ ap (exchanged (a .decimals) (a .amount .currency) (a .to))
-    (ap₂ signedOf (asked (c .before) .0) (asked (c .before) .1) ∙ sign-and-magnitude (a .amount .coefficient))
-    ∙ sym (rw (ne-eqb (a .amount .currency .0) (a .to .0) (e .if1 .left)))
+    ∙ ap (exchanged (a .decimals) (a .from) (a .to)) (ap₂ signedOf (asked (c .before) .0) (asked (c .before) .1) ∙ sign-and-magnitude (a .coefficient))
+    ∙ sym (rw (ne-eqb (a .from .0) (a .to .0) (e .if1 .left)))
 
 pub accepted-spec : {M : Type 1} → statement M
 accepted-spec =
