@@ -161,6 +161,7 @@ int main(int argc, char **argv)
     row("a row of doubles", TEXTS, rows_agree, rows_ours, rows_plain);
     row("write a statement of 4,000; a record", RECORDS, statement_agrees, statement_ours, statement_plain);
     row("check a statement of 4,000; a record", RECORDS, check_agrees, check_ours, check_plain);
+    row("walk a statement of 4,000; a record", RECORDS, view_agrees, view_ours, view_plain);
     posts(0);
     posts(1);
     runs();

@@ -306,3 +306,33 @@ int check_agrees(void)
     mkb_statement r = mkb_check_statement(files[0], sizeof files[0]);
     return !r.refusal && !plain_check(files[1], sizeof files[1], &sum) && r.sum == sum && r.count == RECORDS && r.first == 0;
 }
+
+/* a statement that was opened is walked from its first record to its end */
+void view_ours(void)
+{
+    mkb_view view = {.bytes = files[0], .length = sizeof files[0], .next = 0};
+    for (mkb_step s = mkb_next_payout(&view); !s.ended; s = mkb_next_payout(&view))
+        sink += (uint64_t)s.coefficient + s.place + s.currency;
+}
+
+void view_plain(void)
+{
+    plain_view view = {.bytes = files[1], .length = sizeof files[1], .next = 0};
+    plain_payout p;
+    while (plain_next_payout(&view, &p))
+        sink += (uint64_t)p.coefficient + p.place + p.currency;
+}
+
+int view_agrees(void)
+{
+    mkb_view view;
+    plain_view plain = {.bytes = files[1], .length = sizeof files[1], .next = 0};
+    int ok = !mkb_open_view(&view, files[0], sizeof files[0]) && view.next == 0;
+    for (int i = 0; i <= RECORDS; i++) {
+        plain_payout p = {0, 0, 0};
+        bool more = plain_next_payout(&plain, &p);
+        mkb_step s = mkb_next_payout(&view);
+        ok &= more == !s.ended && more == (i < RECORDS) && s.place == p.place && s.currency == p.currency && s.coefficient == p.coefficient;
+    }
+    return ok;
+}

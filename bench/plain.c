@@ -405,3 +405,23 @@ void plain_run(plain_book *book, const bool *refunds, const int64_t *coefficient
         }
     }
 }
+
+static uint64_t little_endian(const uint8_t *in, int bytes)
+{
+    uint64_t n = 0;
+    for (int i = 0; i < bytes; i++)
+        n |= (uint64_t)in[i] << 8 * i;
+    return n;
+}
+
+bool plain_next_payout(plain_view *view, plain_payout *payout)
+{
+    if (view->length < 40 || view->length - 40 < view->next)
+        return false;
+    const uint8_t *at = view->bytes + view->next;
+    payout->place = (uint16_t)little_endian(at, 2);
+    payout->currency = (uint16_t)little_endian(at + 2, 2);
+    payout->coefficient = (int64_t)little_endian(at + 8, 8);
+    view->next += 16;
+    return true;
+}

@@ -36,4 +36,9 @@ int plain_post(plain_book *book, int64_t amount, uint64_t payouts[16], int by_un
 
 /* a run of movements by a table of one cycle, a mask of who is ahead for each net total below W */
 void plain_run(plain_book *book, const bool *refunds, const int64_t *coefficients, size_t calls, uint64_t *payouts, uint8_t *numbers);
+
+/* the record that comes next in a statement's bytes, if there is one before the trailer */
+typedef struct { const uint8_t *bytes; size_t length, next; } plain_view;
+typedef struct { uint16_t place, currency; int64_t coefficient; } plain_payout;
+bool plain_next_payout(plain_view *view, plain_payout *payout);
 #endif

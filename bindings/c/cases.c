@@ -359,6 +359,7 @@ int main(void)
     limits();
     statements();
     texts();
+    views();
     runs();
     if (failed) {
         printf("c face: %d cases passed, %d failed\n", passed, failed);

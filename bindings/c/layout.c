@@ -25,3 +25,5 @@ SIZE(mkb_totals, 136); AT(mkb_totals, blamed, 1); AT(mkb_totals, totals, 8);
 SIZE(mkb_ran, 232); AT(mkb_ran, blamed, 1); AT(mkb_ran, book, 8); AT(mkb_ran, served, 224);
 SIZE(mkb_end, 16); AT(mkb_end, blamed, 1); AT(mkb_end, end, 8);
 SIZE(mkb_statement, 32); AT(mkb_statement, blamed, 1); AT(mkb_statement, first, 8); AT(mkb_statement, count, 16); AT(mkb_statement, sum, 24);
+SIZE(mkb_first, 16); AT(mkb_first, blamed, 1); AT(mkb_first, first, 8);
+SIZE(mkb_step, 24); AT(mkb_step, next, 0); AT(mkb_step, ended, 8); AT(mkb_step, place, 10); AT(mkb_step, currency, 12); AT(mkb_step, coefficient, 16);

@@ -165,6 +165,27 @@ typedef struct {
     int64_t sum;
 } mkb_statement;
 
+/* where a view of a statement begins: its first record's start */
+typedef struct {
+    uint8_t refusal, blamed;
+    uint64_t first;
+} mkb_first;
+
+/* what a view hands out: the place of what comes next, and a record's partner, currency and coefficient, or noughts where it has ended */
+typedef struct {
+    uint64_t next;
+    bool ended;
+    uint16_t place, currency;
+    int64_t coefficient;
+} mkb_step;
+
+/* a view of a statement: its bytes, which stay the caller's and in their place, and the place of the record that comes next */
+typedef struct {
+    const uint8_t *bytes;
+    size_t length;
+    uint64_t next;
+} mkb_view;
+
 /* the version of the library */
 uint32_t mkb_version(void);
 
@@ -254,6 +275,29 @@ mkb_end mkb_write_statement(int64_t currency, const uint16_t *places, size_t cou
                             int64_t start);
 /* the statement file that the bytes end in: its first record's start, its count and its sum; 14 where they end in none */
 mkb_statement mkb_check_statement(const uint8_t *bytes, size_t count);
+
+/* where a view of the statement file that the bytes end in begins; 14 where they end in none */
+mkb_first mkb_first_payout(const uint8_t *bytes, size_t count);
+/* the record at a place of such bytes, and the place behind it; ended, and the place itself, where no whole record stands there before the trailer */
+mkb_step mkb_payout_at(const uint8_t *bytes, size_t count, int64_t at);
+
+/* a view of the statement file that the bytes end in: 0, or 14 where they end in none, and the view has ended then */
+static inline uint8_t mkb_open_view(mkb_view *view, const uint8_t *bytes, size_t count)
+{
+    mkb_first start = mkb_first_payout(bytes, count);
+    view->bytes = bytes;
+    view->length = count;
+    view->next = start.refusal ? count : start.first;
+    return start.refusal;
+}
+
+/* the record that comes next, in file order and each once; then ended, as often as it is asked */
+static inline mkb_step mkb_next_payout(mkb_view *view)
+{
+    mkb_step step = mkb_payout_at(view->bytes, view->length, (int64_t)view->next);
+    view->next = step.next;
+    return step;
+}
 
 #ifdef __cplusplus
 }

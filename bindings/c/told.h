@@ -73,6 +73,8 @@ void limits(void);
 /* rows of doubles and exports (doubles.c) */
 void doubles(void);
 void statements(void);
+/* views of statements (views.c) */
+void views(void);
 /* amounts as text (texts.c) */
 void texts(void);
 #endif

@@ -8,13 +8,14 @@ from ctypes import c_bool, c_int64, c_uint8, c_uint32, c_uint64
 from decimal import Decimal
 
 import morskebab
+from morskebab import _statements
 from morskebab import (
     DEM, EUR, FRF, HRK, IEP, ITL, CEILING, DOWN, FLOOR, HALF_DOWN, HALF_EVEN, HALF_UP, UP, L, REASONS,
     ACTUAL_360, ACTUAL_365, THIRTY_360_AMERICAN, THIRTY_360_EUROPEAN,
-    Amount, Book, Columns, Date, Moved, Ran, Refused, Split, Statement, check_statement, currency_line, currency_of, day_count, plain_quotient, take_row,
-    vouchers, write_statement,
+    Amount, Book, Columns, Date, Moved, Payout, Ran, Refused, Split, Statement, View, check_statement, currency_line, currency_of, day_count,
+    plain_quotient, take_row, vouchers, write_statement,
 )
-from morskebab._c import PARTNERS, CAmount, CBook
+from morskebab._c import PARTNERS, CAmount, CBook, library
 
 passed = 0
 
@@ -224,8 +225,8 @@ def tables():
     refused(4, lambda: Amount(21, 2, 1).compound(0, 1))
     out = (c_int64 * 6)(*[777] * 6)
     for principal, room, number in ((10000, 3, 11), (L, 6, 13), (-1, 6, 10)):
-        same((morskebab._library.mkb_compound(CAmount(EUR, 2, principal), 500, 3, out, room), out[:]), (number, [777] * 6))
-    same((morskebab._library.mkb_compound(CAmount(EUR, 2, 10000), 500, 3, out, 6), out[:]), (0, [10000, 10500, 11025, 11576, 777, 777]))
+        same((library.mkb_compound(CAmount(EUR, 2, principal), 500, 3, out, room), out[:]), (number, [777] * 6))
+    same((library.mkb_compound(CAmount(EUR, 2, 10000), 500, 3, out, 6), out[:]), (0, [10000, 10500, 11025, 11576, 777, 777]))
     named(TypeError, "periods", lambda: euros(1).compound(0, "3"))
     named(OverflowError, "rate", lambda: euros(1).compound(2**64, 3))
 
@@ -288,8 +289,8 @@ def handed_out():
         refused(9, lambda: vouchers(8, weights))
     refused(6, lambda: vouchers(10001, []))
     lent, out = (c_uint32 * 4)(*four), (c_uint32 * 6)(*[777] * 6)
-    same((morskebab._library.mkb_vouchers(8, lent, 4, out, 3), out[:]), (11, [777] * 6))
-    same((morskebab._library.mkb_vouchers(8, lent, 4, out, 6), out[:]), (0, [4, 3, 1, 0, 777, 777]))
+    same((library.mkb_vouchers(8, lent, 4, out, 3), out[:]), (11, [777] * 6))
+    same((library.mkb_vouchers(8, lent, 4, out, 6), out[:]), (0, [4, 3, 1, 0, 777, 777]))
     named(TypeError, "count", lambda: vouchers(8.0, four))
     named(TypeError, "weights must be", lambda: vouchers(8, {5, 3}))
 
@@ -356,13 +357,13 @@ def broken_books():
         (10, EUR, 3, whole, -1), (3, EUR, 3, whole, L + 1), (3, EUR, 3, whole, -L - 1),
     ):
         book = CBook(currency, count, (c_uint32 * PARTNERS)(*weights), net, 1)
-        for call in (morskebab._library.mkb_post, morskebab._library.mkb_refund):
+        for call in (library.mkb_post, library.mkb_refund):
             r = call(book, CAmount(EUR, 2, 1))
             same((r.refusal, r.blamed, bytes(r.book), any(r.payouts)), (number, 0, bytes(book), False))
-        r = morskebab._library.mkb_running_totals(book)
+        r = library.mkb_running_totals(book)
         same((r.refusal, r.blamed, any(r.totals)), (number, 0, False))
         payouts, numbers = (c_uint64 * PARTNERS)(77), (c_uint8 * 1)(77)
-        r = morskebab._library.mkb_run(book, (c_bool * 1)(), 1, (c_int64 * 1)(1), 1, payouts, PARTNERS, numbers, 1)
+        r = library.mkb_run(book, (c_bool * 1)(), 1, (c_int64 * 1)(1), 1, payouts, PARTNERS, numbers, 1)
         same((r.refusal, r.served, bytes(r.book), payouts[0], numbers[0]), (number, 0, bytes(book), 77, 77))
     refused(4, lambda: Book(21, whole, 9).post(euros(1)))
     refused(9, lambda: Book(EUR, (), 9).refund(euros(1)))
@@ -398,6 +399,36 @@ def statements():
     named(OverflowError, "places[0]", lambda: write_statement(EUR, [65536], [1], out))
 
 
+def views():
+    same(list(View(ONE)), [Payout(2, EUR, -1250)])
+    places, coefficients = [i % 16 for i in range(4000)], [L - i if i % 3 else 7 * i - L for i in range(4000)]
+    large = bytearray(64100)
+    end = write_statement(HRK, places, coefficients, large, 76)
+    whole_file = bytes(large)
+    for data in (large, whole_file, memoryview(large), memoryview(whole_file)):
+        view = View(data)
+        same(list(view), [Payout(place, HRK, coefficient) for place, coefficient in zip(places, coefficients)])
+        # it has ended, and goes on saying so
+        same((list(view), next(view, None), next(view, None)), ([], None, None))
+    same((end, sum(payout.coefficient for payout in View(large))), (64100, check_statement(large).sum))
+    # two views of the same bytes don't disturb each other, and each keeps hold of its bytes
+    first, second = View(ONE + b""), View(bytes(7) + ONE)
+    same((next(first), next(second), list(first), list(second)), (Payout(2, EUR, -1250), Payout(2, EUR, -1250), [], []))
+    empty = bytearray(24)
+    write_statement(DEM, [], [], empty)
+    same(list(View(empty)), [])
+    for data in (b"", bytearray(), ONE[:-1], ONE[1:], ONE + b"\0", ONE[:32] + b"\2" + ONE[33:]):
+        refused(14, lambda: View(data))
+    # a buffer that a view holds keeps its size, so that no place of it goes away
+    held = bytearray(ONE)
+    view = View(held)
+    named(BufferError, "", held.clear)
+    same(list(view), [Payout(2, EUR, -1250)])
+    named(TypeError, "data", lambda: View("1234"))
+    same([*View(memoryview(bytes(2) + ONE)[2:])], [Payout(2, EUR, -1250)])
+    same([*View(memoryview(bytearray(ONE[::-1]))[::-1])], [Payout(2, EUR, -1250)])
+
+
 def negated(coefficient):
     return -euros(coefficient)
 
@@ -419,11 +450,14 @@ def versions():
 
 
 def main():
-    for part in (modes, amounts, past_limits, texts_and_decimals, parsed, fields, lines, euro_steps, days, tables, prices, rows_of_doubles, shares, handed_out, books, cards, broken_books, statements, processes, versions):
+    for part in (modes, amounts, past_limits, texts_and_decimals, parsed, fields, lines, euro_steps, days, tables, prices, rows_of_doubles, shares, handed_out, books, cards, broken_books, statements, views, processes, versions):
         part()
-    examples = doctest.testmod(morskebab)
-    assert not examples.failed
-    print(f"python: {passed + examples.attempted} checks passed")
+    tried = 0
+    for module in (morskebab, _statements):
+        examples = doctest.testmod(module)
+        assert not examples.failed
+        tried += examples.attempted
+    print(f"python: {passed + tried} checks passed")
 
 
 if __name__ == "__main__":

@@ -20,14 +20,15 @@ whole number raises TypeError, and one that its C type can't hold OverflowError;
 from __future__ import annotations
 
 from collections.abc import Sequence
-from ctypes import c_bool, c_int32, c_int64, c_uint8, c_uint16, c_uint32, c_uint64
+from ctypes import c_bool, c_int32, c_int64, c_uint8, c_uint32, c_uint64
 from dataclasses import dataclass
 from decimal import Decimal
 from enum import IntEnum
 from typing import Any, Callable, NamedTuple
 
-from ._c import PARTNERS, VERSION, CAmount, CBook, CColumns, CDate, load
-from ._values import REASONS, Refused, as_bytes, as_list, is_a, whole
+from ._c import PARTNERS, VERSION, CAmount, CBook, CColumns, CDate, library
+from ._statements import Payout, Statement, View, check_statement, write_statement
+from ._values import REASONS, Refused, accepted, as_bytes, as_list, is_a, whole
 
 __version__ = f"{VERSION // 10000}.{VERSION // 100 % 100}.{VERSION % 100}"
 
@@ -52,18 +53,11 @@ SCALE = 6
 PERIODS = 120
 TEXT = 20
 
-_library = load()
-
-def _accepted(answer: Any) -> Any:
-    if answer.refusal:
-        raise Refused(answer.refusal, answer.blamed)
-    return answer
-
 
 def plain_quotient(mode: int, a: int, b: int, d: int) -> int:
     """a x b / d rounded by the mode, the product exact: refusals 1, 3, 6, 13. A quotient n / d is the one of the factors n and 1."""
     factors = whole(c_int64, "a", a), whole(c_int64, "b", b)
-    return _accepted(_library.mkb_round(whole(c_int64, "mode", mode), *factors, whole(c_int64, "d", d))).value
+    return accepted(library.mkb_round(whole(c_int64, "mode", mode), *factors, whole(c_int64, "d", d))).value
 
 
 class Line(NamedTuple):
@@ -77,13 +71,13 @@ class Line(NamedTuple):
 
 def currency_line(currency: int) -> Line | None:
     """The table's line of a currency number; None for any number but 0 to 20."""
-    line = _library.mkb_currency(whole(c_int64, "currency", currency))
+    line = library.mkb_currency(whole(c_int64, "currency", currency))
     return Line(bytes(line.code).decode(), line.figures, line.places, line.digits) if line.figures else None
 
 
 def currency_of(code: str) -> int | None:
     """The number of the currency with this code of three capitals; None where the table has none."""
-    number = _library.mkb_currency_of(*as_bytes("code", code))
+    number = library.mkb_currency_of(*as_bytes("code", code))
     return number if currency_line(number) else None
 
 
@@ -102,13 +96,13 @@ class Date:
 
     def exists(self) -> bool:
         """Whether the Gregorian calendar has the date, from 1900 to 2199."""
-        return _library.mkb_date_exists(self._c())
+        return library.mkb_date_exists(self._c())
 
 
 def day_count(basis: Basis, start: Date, end: Date) -> int:
     """The days from the start to the end by the basis: refusals 7, 8."""
     start, end = is_a(Date, "start", start), is_a(Date, "end", end)
-    return _accepted(_library.mkb_day_count(is_a(Basis, "basis", basis), start._c(), end._c())).days
+    return accepted(library.mkb_day_count(is_a(Basis, "basis", basis), start._c(), end._c())).days
 
 
 @dataclass(frozen=True, eq=False)
@@ -135,12 +129,12 @@ class Amount:
     def parse(cls, currency: int, text: str) -> Amount:
         """The amount that a text is: an optional minus, digits, optionally a point with 1 to 6 digits, which are the scale; no leading zeros but a single
         0 before the point, no minus on zero, at most 20 characters: refusals 4, 14, 13."""
-        return cls._of(_accepted(_library.mkb_read(whole(c_int64, "currency", currency), *as_bytes("text", text))).amount)
+        return cls._of(accepted(library.mkb_read(whole(c_int64, "currency", currency), *as_bytes("text", text))).amount)
 
     def text(self) -> str:
         """The amount's only text, which `parse` reads: refusals 2, 3, 4."""
         out = (c_uint8 * TEXT)()
-        return bytes(out[: _accepted(_library.mkb_write(self._c(), out, TEXT)).length]).decode()
+        return bytes(out[: accepted(library.mkb_write(self._c(), out, TEXT)).length]).decode()
 
     @classmethod
     def from_decimal(cls, currency: int, value: Decimal) -> Amount:
@@ -159,7 +153,7 @@ class Amount:
 
     def __str__(self) -> str:
         try:
-            return f"{self.text()} {bytes(_library.mkb_currency(self.currency).code).decode()}"
+            return f"{self.text()} {bytes(library.mkb_currency(self.currency).code).decode()}"
         except Refused:
             return repr(self)
 
@@ -177,7 +171,7 @@ class Amount:
 
     def compare(self, other: Amount) -> int:
         """-1, 0 or 1 where this is worth less than the other, as much or more: refusals 2, 3, 4, 5."""
-        return _accepted(_library.mkb_order(self._c(), is_a(Amount, "other", other)._c())).order
+        return accepted(library.mkb_order(self._c(), is_a(Amount, "other", other)._c())).order
 
     def __lt__(self, other: Amount) -> bool:
         return self.compare(other) < 0 if isinstance(other, Amount) else NotImplemented
@@ -195,7 +189,7 @@ class Amount:
         """Exact, at the greater of the two scales: refusals 2, 3, 4, 5, 13."""
         if not isinstance(other, Amount):
             return NotImplemented
-        return Amount._of(_accepted(_library.mkb_sum(self._c(), other._c())).amount)
+        return Amount._of(accepted(library.mkb_sum(self._c(), other._c())).amount)
 
     def __radd__(self, other: int) -> Amount:
         """The 0 that `sum` starts with."""
@@ -203,7 +197,7 @@ class Amount:
 
     def __neg__(self) -> Amount:
         """Exact: refusals 2, 3, 4."""
-        return Amount._of(_accepted(_library.mkb_negate(self._c())).amount)
+        return Amount._of(accepted(library.mkb_negate(self._c())).amount)
 
     def __sub__(self, other: Amount) -> Amount:
         """The sum with the other's opposite: refusals 2, 3, 4, 5, 13."""
@@ -215,54 +209,54 @@ class Amount:
 
     def rescale(self, scale: int, mode: int) -> Amount:
         """Exact to a greater scale, rounded by the mode to a smaller one: refusals 1, 2, 3, 4, 13."""
-        answer = _library.mkb_rescale(self._c(), whole(c_int64, "scale", scale), whole(c_int64, "mode", mode))
-        return Amount._of(_accepted(answer).amount)
+        answer = library.mkb_rescale(self._c(), whole(c_int64, "scale", scale), whole(c_int64, "mode", mode))
+        return Amount._of(accepted(answer).amount)
 
     def convert(self, to: int) -> Amount:
         """In the currency `to`, by Council Regulation (EC) No 1103/97, articles 4 and 5: refusals 2, 3, 4, 13."""
-        return Amount._of(_accepted(_library.mkb_convert(self._c(), whole(c_int64, "to", to))).amount)
+        return Amount._of(accepted(library.mkb_convert(self._c(), whole(c_int64, "to", to))).amount)
 
     def convert_by(self, to: int, decimals: int) -> Amount:
         """The same by a euro step of 3 to 6 decimals between two old units: refusals 2, 3, 4, 13. A step over L is 13, which at 6 decimals is one
         over 999,999,999.999999 euro."""
-        answer = _library.mkb_convert_by(self._c(), whole(c_int64, "to", to), whole(c_int64, "decimals", decimals))
-        return Amount._of(_accepted(answer).amount)
+        answer = library.mkb_convert_by(self._c(), whole(c_int64, "to", to), whole(c_int64, "decimals", decimals))
+        return Amount._of(accepted(answer).amount)
 
     def interest(self, rate: int, basis: Basis, start: Date, end: Date, mode: int) -> Amount:
         """This x rate x days / (10,000 x year), rounded once: refusals 1, 2, 3, 4, 6, 7, 8, 13."""
         start, end = is_a(Date, "start", start), is_a(Date, "end", end)
         numbers = whole(c_int64, "rate", rate), is_a(Basis, "basis", basis)
-        return Amount._of(_accepted(_library.mkb_interest(self._c(), *numbers, start._c(), end._c(), whole(c_int64, "mode", mode))).amount)
+        return Amount._of(accepted(library.mkb_interest(self._c(), *numbers, start._c(), end._c(), whole(c_int64, "mode", mode))).amount)
 
     def compound(self, rate: int, periods: int) -> list[Amount]:
         """This and its balance after each period, each the one before and its interest, rate / 10,000 rounded HALF_EVEN: refusals 2, 3, 4, 6, 10, 13."""
         out = (c_int64 * (PERIODS + 1))()
-        number = _library.mkb_compound(self._c(), whole(c_int64, "rate", rate), whole(c_int64, "periods", periods), out, PERIODS + 1)
+        number = library.mkb_compound(self._c(), whole(c_int64, "rate", rate), whole(c_int64, "periods", periods), out, PERIODS + 1)
         if number:
             raise Refused(number)
         return [Amount(self.currency, self.scale, balance) for balance in out[: periods + 1]]
 
     def tax_as_net(self, rate: int, mode: int) -> Split:
         """Tax = net x rate / 1,000,000 rounded by the mode, gross = net + tax: refusals 1, 2, 3, 4, 6, 13."""
-        return Split._of(_accepted(_library.mkb_tax_from_net(self._c(), whole(c_int64, "rate", rate), whole(c_int64, "mode", mode))))
+        return Split._of(accepted(library.mkb_tax_from_net(self._c(), whole(c_int64, "rate", rate), whole(c_int64, "mode", mode))))
 
     def tax_as_gross(self, rate: int, mode: int) -> Split:
         """Tax = gross x rate / (1,000,000 + rate) rounded by the mode, net = gross - tax: refusals 1, 2, 3, 4, 6."""
-        return Split._of(_accepted(_library.mkb_tax_from_gross(self._c(), whole(c_int64, "rate", rate), whole(c_int64, "mode", mode))))
+        return Split._of(accepted(library.mkb_tax_from_gross(self._c(), whole(c_int64, "rate", rate), whole(c_int64, "mode", mode))))
 
     def net_for(self, rate: int, mode: int) -> Split:
         """The price of the only net that has this gross: refusals 1, 2, 3, 4, 6, and 15 where no net has it."""
-        return Split._of(_accepted(_library.mkb_net_for(self._c(), whole(c_int64, "rate", rate), whole(c_int64, "mode", mode))))
+        return Split._of(accepted(library.mkb_net_for(self._c(), whole(c_int64, "rate", rate), whole(c_int64, "mode", mode))))
 
     def export(self) -> float:
         """The coefficient as a double, divided once by 10^scale, for a scale of 0 to 3: refusals 2, 3, 4."""
-        return _accepted(_library.mkb_export(self._c())).value
+        return accepted(library.mkb_export(self._c())).value
 
     def share(self, weights: Sequence[int]) -> tuple[int, ...]:
         """The shares' coefficients by largest remainder, one for each weight: refusals 2, 3, 4, 9."""
         lent, count = as_list(c_uint32, "weights", weights)
         out = (c_int64 * (count + 1))()
-        number = _library.mkb_share(self._c(), lent, count, out, count)
+        number = library.mkb_share(self._c(), lent, count, out, count)
         if number:
             raise Refused(number)
         return tuple(out[:count])
@@ -278,7 +272,7 @@ class Columns(NamedTuple):
 def take_row(net: float, tax: float, currency: int, scale: int, mode: int) -> Columns:
     """A row of doubles as amounts at the scale, 0 to 3, from the doubles' exact worth, rounded by the mode: refusals 1, 2, 4, 13, 16."""
     numbers = whole(c_int64, "currency", currency), whole(c_int64, "scale", scale), whole(c_int64, "mode", mode)
-    answer = _accepted(_library.mkb_row(CColumns(is_a(float, "net", net), is_a(float, "tax", tax)), *numbers))
+    answer = accepted(library.mkb_row(CColumns(is_a(float, "net", net), is_a(float, "tax", tax)), *numbers))
     return Columns(Amount._of(answer.net), Amount._of(answer.tax))
 
 
@@ -286,7 +280,7 @@ def vouchers(count: int, weights: Sequence[int]) -> list[int]:
     """How many of so many whole vouchers each weight gets by highest average: refusals 6, 9."""
     lent, places = as_list(c_uint32, "weights", weights)
     out = (c_uint32 * (places + 1))()
-    number = _library.mkb_vouchers(whole(c_int64, "count", count), lent, places, out, places)
+    number = library.mkb_vouchers(whole(c_int64, "count", count), lent, places, out, places)
     if number:
         raise Refused(number)
     return out[:places]
@@ -355,29 +349,29 @@ class Book:
     def open(cls, currency: int, weights: Sequence[int]) -> Book:
         """A book with these weights and a net total of 0: refusals 4, 9."""
         lent, count = as_list(c_uint32, "weights", weights)
-        return cls._of(_accepted(_library.mkb_open(whole(c_int64, "currency", currency), lent, count)).book)
+        return cls._of(accepted(library.mkb_open(whole(c_int64, "currency", currency), lent, count)).book)
 
     def _moved(self, call: Callable[[CBook, CAmount], Any], amount: Amount) -> Moved:
-        answer = _accepted(call(self._c(), is_a(Amount, "amount", amount)._c()))
+        answer = accepted(call(self._c(), is_a(Amount, "amount", amount)._c()))
         return Moved(Book._of(answer.book), tuple(answer.payouts[: answer.book.count]))
 
     def post(self, amount: Amount) -> Moved:
         """Pays each partner the difference of its running totals at N + A and N: refusals 2, 3, 4, 5, 9, 10, 13."""
-        return self._moved(_library.mkb_post, amount)
+        return self._moved(library.mkb_post, amount)
 
     def refund(self, amount: Amount) -> Moved:
         """Takes back the difference of the running totals at N and N - A: refusals 2, 3, 4, 5, 9, 10, 12."""
-        return self._moved(_library.mkb_refund, amount)
+        return self._moved(library.mkb_refund, amount)
 
     def new_card(self, weights: Sequence[int]) -> Book:
         """The book on its next card, with these weights for the same count: the running totals are settled and the net total is 0; refusals 3, 4,
         9, 10."""
         lent, count = as_list(c_uint32, "weights", weights)
-        return Book._of(_accepted(_library.mkb_new_card(self._c(), lent, count)).book)
+        return Book._of(accepted(library.mkb_new_card(self._c(), lent, count)).book)
 
     def running_totals(self) -> tuple[int, ...]:
         """Each partner's running total at the net total: refusals 3, 4, 9, 10."""
-        return tuple(_accepted(_library.mkb_running_totals(self._c())).totals[: len(self.weights)])
+        return tuple(accepted(library.mkb_running_totals(self._c())).totals[: len(self.weights)])
 
     def run(self, refunds: Sequence[bool], coefficients: Sequence[int]) -> Ran:
         """Refunds (True) or posts (False) each coefficient in turn, as `refund` and `post` would: refusals 3, 4, 9, 10 of the book itself, and 9
@@ -385,41 +379,7 @@ class Book:
         lent, calls = as_list(c_bool, "refunds", refunds)
         given, count = as_list(c_int64, "coefficients", coefficients)
         payouts, numbers = (c_uint64 * (PARTNERS * calls + 1))(), (c_uint8 * (calls + 1))()
-        answer = _library.mkb_run(self._c(), lent, calls, given, count, payouts, PARTNERS * calls, numbers, calls)
-        last = Book._of(_accepted(answer).book)
+        answer = library.mkb_run(self._c(), lent, calls, given, count, payouts, PARTNERS * calls, numbers, calls)
+        last = Book._of(accepted(answer).book)
         paid = (payouts[PARTNERS * call : PARTNERS * call + len(self.weights)] for call in range(calls))
         return Ran(last, tuple(tuple(places) for places in paid), tuple(numbers[:calls]))
-
-
-class Statement(NamedTuple):
-    """What a statement file says of itself: its first record's start, the count of its records and the sum of their coefficients."""
-
-    first: int
-    count: int
-    sum: int
-
-
-def _bytes(field: str, data: Any) -> tuple[Any, int]:
-    """Bytes to read, and their number."""
-    if not isinstance(data, (bytes, bytearray, memoryview)):
-        raise TypeError(f"{field} must be bytes, not {type(data).__name__}")
-    held = bytes(data)
-    return (c_uint8 * (len(held) + 1)).from_buffer_copy(held + b"\0"), len(held)
-
-
-def write_statement(currency: int, places: Sequence[int], coefficients: Sequence[int], out: bytearray, start: int = 0) -> int:
-    """A statement file in `out` from the byte `start` on, a record for each payout and a trailer; the file's end. No other byte changes, and none
-    where the call is refused: refusals 3, 4, 9, 11."""
-    partners, count = as_list(c_uint16, "places", places)
-    payouts, others = as_list(c_int64, "coefficients", coefficients)
-    room = len(is_a(bytearray, "out", out))
-    # an empty buffer has no address
-    lent = (c_uint8 * room).from_buffer(out) if room else (c_uint8 * 1)()
-    numbers = whole(c_int64, "currency", currency), whole(c_int64, "start", start)
-    return _accepted(_library.mkb_write_statement(numbers[0], partners, count, payouts, others, lent, room, numbers[1])).end
-
-
-def check_statement(data: bytes | bytearray | memoryview) -> Statement:
-    """The statement file that the bytes end in: refusal 14 where they end in none."""
-    answer = _accepted(_library.mkb_check_statement(*_bytes("data", data)))
-    return Statement(answer.first, answer.count, answer.sum)

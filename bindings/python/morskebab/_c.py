@@ -48,6 +48,11 @@ CTotals = _answer("CTotals", ("totals", c_uint64 * PARTNERS))
 CRan = _answer("CRan", ("book", CBook), ("served", c_uint64))
 CEnd = _answer("CEnd", ("end", c_uint64))
 CStatement = _answer("CStatement", ("first", c_uint64), ("count", c_uint64), ("sum", c_int64))
+CFirst = _answer("CFirst", ("first", c_uint64))
+
+
+class CStep(Structure):
+    _fields_ = [("next", c_uint64), ("ended", c_bool), ("place", c_uint16), ("currency", c_uint16), ("coefficient", c_int64)]
 
 
 def _lent(kind: type) -> tuple:
@@ -87,6 +92,8 @@ FUNCTIONS = {
     "mkb_running_totals": (CTotals, CBook),
     "mkb_write_statement": (CEnd, c_int64, *_lent(c_uint16), *_lent(c_int64), *_lent(c_uint8), c_int64),
     "mkb_check_statement": (CStatement, *_lent(c_uint8)),
+    "mkb_first_payout": (CFirst, *_lent(c_uint8)),
+    "mkb_payout_at": (CStep, *_lent(c_uint8), c_int64),
     "mkb_run": (CRan, CBook, *_lent(c_bool), *_lent(c_int64), *_lent(c_uint64), *_lent(c_uint8)),
 }
 
@@ -104,3 +111,6 @@ def load() -> ctypes.CDLL:
     if library.mkb_version() != VERSION:
         raise ImportError(f"the library is of version {library.mkb_version()}, and this module of version {VERSION}")
     return library
+
+
+library = load()

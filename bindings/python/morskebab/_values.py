@@ -3,7 +3,7 @@ from __future__ import annotations
 
 import operator
 from collections.abc import Mapping
-from ctypes import Array, c_bool, c_uint8, sizeof
+from ctypes import POINTER, Array, c_bool, c_char_p, c_uint8, cast, sizeof
 from typing import Any
 
 REASONS = {
@@ -40,6 +40,13 @@ class Refused(Exception):
         return f"refusal {self.number}: {REASONS[self.number]}{date}"
 
 
+def accepted(answer: Any) -> Any:
+    """An answer, or `Refused` where it is a refusal."""
+    if answer.refusal:
+        raise Refused(answer.refusal, answer.blamed)
+    return answer
+
+
 def whole(kind: Any, field: str, value: Any) -> int:
     """The value as the C type holds it, a whole number, or a bool; TypeError or OverflowError with the field's name."""
     if kind is c_bool:
@@ -67,6 +74,24 @@ def as_bytes(field: str, text: Any) -> tuple[Array, int]:
     """A str's characters as bytes, and their number; one that ASCII hasn't becomes several bytes, none of them a digit."""
     held = is_a(str, field, text).encode("utf-8", "surrogatepass")
     return (c_uint8 * (len(held) + 1))(*held), len(held)
+
+
+def as_memory(field: str, data: Any) -> tuple[Any, int]:
+    """Where bytes to read stand, and their number; not copied but for a view of memory that may not be written. What it answers keeps hold of them."""
+    if isinstance(data, memoryview) and (data.readonly or not data.c_contiguous):
+        data = bytes(data)
+    if isinstance(data, bytes):
+        return cast(c_char_p(data), POINTER(c_uint8)), len(data)
+    if not isinstance(data, (bytearray, memoryview)):
+        raise TypeError(f"{field} must be bytes, not {type(data).__name__}")
+    return as_room(data)
+
+
+def as_room(data: bytearray | memoryview) -> tuple[Any, int]:
+    """Memory to write, and its number of bytes."""
+    room = memoryview(data).nbytes
+    # an empty one has no address
+    return (c_uint8 * room).from_buffer(data) if room else (c_uint8 * 1)(), room
 
 
 def is_a(kind: type, field: str, value: Any) -> Any:

@@ -146,6 +146,22 @@ pub struct Statement {
     pub sum: i64,
 }
 
+#[repr(C)]
+pub struct First {
+    pub refusal: u8,
+    pub blamed: u8,
+    pub first: u64,
+}
+
+#[repr(C)]
+pub struct Step {
+    pub next: u64,
+    pub ended: bool,
+    pub place: u16,
+    pub currency: u16,
+    pub coefficient: i64,
+}
+
 /// A field of what the library hands back: such a number is a `u8` of its own.
 pub fn small(n: i32) -> u8 {
     n as u8
@@ -191,6 +207,8 @@ extern "C" {
         start: i64,
     ) -> End;
     pub fn mkb_check_statement(bytes: *const u8, count: usize) -> Statement;
+    pub fn mkb_first_payout(bytes: *const u8, count: usize) -> First;
+    pub fn mkb_payout_at(bytes: *const u8, count: usize, at: i64) -> Step;
     pub fn mkb_run(
         book: Book,
         refunds: *const bool,

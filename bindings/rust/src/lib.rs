@@ -20,7 +20,7 @@ mod statements;
 
 pub use books::{Book, Moved};
 pub use refusal::{Blamed, Refusal};
-pub use statements::{check_statement, write_statement, Statement};
+pub use statements::{check_statement, write_statement, Payout, Statement, View};
 use std::cmp::Ordering;
 
 /// The mode numbers.

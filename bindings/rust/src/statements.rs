@@ -1,5 +1,10 @@
 //! Statement files.
 use crate::{ffi, Currency, Refusal};
+use std::iter::FusedIterator;
+
+/// The bytes of a record, and of the trailer.
+const RECORD: usize = 16;
+const TRAILER: usize = 24;
 
 /// What a statement file says of itself: its first record's start, the count of its records and the sum of their coefficients.
 #[derive(Clone, Copy, Debug, PartialEq, Eq)]
@@ -36,3 +41,47 @@ pub fn check_statement(bytes: &[u8]) -> Result<Statement, Refusal> {
     let r = unsafe { ffi::mkb_check_statement(bytes.as_ptr(), bytes.len()) };
     Refusal::or(r.refusal, r.blamed, Statement { first: r.first as usize, count: r.count as usize, sum: r.sum })
 }
+
+/// What a record says of one payout: the partner's place, the currency, and the coefficient at the currency's own digits.
+#[derive(Clone, Copy, Debug, PartialEq, Eq)]
+pub struct Payout {
+    pub place: u16,
+    pub currency: Currency,
+    pub coefficient: i64,
+}
+
+/// The payouts of a statement file in file order, each once. It borrows the bytes and keeps its place among them.
+#[derive(Clone, Debug)]
+pub struct View<'a> {
+    bytes: &'a [u8],
+    next: u64,
+}
+
+impl<'a> View<'a> {
+    /// A view of the statement file that the bytes end in: refusal 14 where they end in none.
+    pub fn open(bytes: &'a [u8]) -> Result<Self, Refusal> {
+        // SAFETY: the pointer goes with the slice's length
+        let r = unsafe { ffi::mkb_first_payout(bytes.as_ptr(), bytes.len()) };
+        Refusal::or(r.refusal, r.blamed, View { bytes, next: r.first })
+    }
+}
+
+impl Iterator for View<'_> {
+    type Item = Payout;
+
+    fn next(&mut self) -> Option<Payout> {
+        // SAFETY: as above
+        let step = unsafe { ffi::mkb_payout_at(self.bytes.as_ptr(), self.bytes.len(), self.next as i64) };
+        self.next = step.next;
+        // a currency of a statement file is one of the table's
+        (!step.ended).then_some(Payout { place: step.place, currency: Currency(step.currency as u8), coefficient: step.coefficient })
+    }
+
+    fn size_hint(&self) -> (usize, Option<usize>) {
+        let left = (self.bytes.len() - TRAILER - self.next as usize) / RECORD;
+        (left, Some(left))
+    }
+}
+
+impl ExactSizeIterator for View<'_> {}
+impl FusedIterator for View<'_> {}

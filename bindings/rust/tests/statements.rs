@@ -1,5 +1,5 @@
 //! Document 02's statement files: its one case whole, and each limit from both sides.
-use morskebab::{check_statement, write_statement, Amount, Currency, Refusal, Statement};
+use morskebab::{check_statement, write_statement, Amount, Currency, Payout, Refusal, Statement, View};
 
 const EUR: Currency = Currency(0);
 const ONE: [u8; 40] = [
@@ -35,5 +35,29 @@ fn refusals() {
     assert_eq!(write_statement(EUR, &[0; 4001], &[0; 4001], &mut [0; 70_000], 0), Err(Refusal::Room));
     for bytes in [&ONE[..39], &ONE[1..], &[]] {
         assert_eq!(check_statement(bytes), Err(Refusal::Malformed));
+    }
+}
+
+#[test]
+fn views() {
+    let mut out = vec![0xa5; 64_100];
+    let places: Vec<u16> = (0..4_000).map(|i| i % 16).collect();
+    let coefficients: Vec<i64> = (0..4_000).map(|i| if i % 3 == 0 { 7 * i - Amount::L } else { Amount::L - i }).collect();
+    assert_eq!(write_statement(Currency(20), &places, &coefficients, &mut out, 76), Ok(64_100));
+    let said = check_statement(&out).unwrap();
+    let mut view = View::open(&out).unwrap();
+    assert_eq!(view.len(), said.count);
+    let again = view.clone();
+    let payouts: Vec<Payout> = view.by_ref().collect();
+    let wanted = places.iter().zip(&coefficients).map(|(&place, &coefficient)| Payout { place, currency: Currency(20), coefficient });
+    assert!(payouts.iter().copied().eq(wanted) && again.eq(payouts.iter().copied()));
+    assert_eq!(payouts.iter().map(|p| p.coefficient).sum::<i64>(), said.sum);
+    // it has ended, and goes on saying so
+    assert_eq!((view.next(), view.next(), view.len()), (None, None, 0));
+    assert_eq!(View::open(&ONE).unwrap().collect::<Vec<_>>(), [Payout { place: 2, currency: EUR, coefficient: -1250 }]);
+    assert_eq!(write_statement(EUR, &[], &[], &mut out, 0), Ok(24));
+    assert_eq!(View::open(&out[..24]).unwrap().next(), None);
+    for bytes in [&ONE[..39], &ONE[1..], &[]] {
+        assert_eq!(View::open(bytes).err(), Some(Refusal::Malformed));
     }
 }

@@ -3,3 +3,4 @@ pub mod Answers
 pub mod Books
 pub mod Rows
 pub mod Statements
+pub mod Views

@@ -14,6 +14,7 @@ mod prices;
 mod rows;
 mod statements;
 mod texts;
+mod views;
 mod wholes;
 
 pub use amounts::flat_answer;
@@ -38,6 +39,8 @@ pub use rows::given_row;
 pub use statements::flat_end;
 pub use statements::flat_statement;
 pub use texts::flat_written;
+pub use views::flat_first;
+pub use views::flat_step;
 pub use wholes::flat_whole;
 
 // Its worth is coefficient / 10^scale.
@@ -191,4 +194,23 @@ pub struct MkbStatement {
     pub first: u64,
     pub count: u64,
     pub sum: i64,
+}
+
+// Where a view of a statement begins: the first record's start.
+#[repr(C)]
+pub struct MkbFirst {
+    pub refusal: u8,
+    pub blamed: u8,
+    pub first: u64,
+}
+
+// What a view hands out at a place: the place of what comes next, and a record's numbers or that it has ended. The next place stands first, by
+// itself, since a walk waits for nothing else.
+#[repr(C)]
+pub struct MkbStep {
+    pub next: u64,
+    pub ended: bool,
+    pub place: u16,
+    pub currency: u16,
+    pub coefficient: i64,
 }

@@ -11,3 +11,4 @@ mod statements;
 mod tables;
 mod texts;
 mod versions;
+mod views;

@@ -1,0 +1,71 @@
+"""Statement files: written, checked, and viewed record by record.
+
+    >>> out = bytearray(56)
+    >>> write_statement(0, [2, 0], [-1250, 700], out)
+    56
+    >>> check_statement(out)
+    Statement(first=0, count=2, sum=-550)
+    >>> for payout in View(out):
+    ...     print(payout)
+    Payout(place=2, currency=0, coefficient=-1250)
+    Payout(place=0, currency=0, coefficient=700)
+"""
+from __future__ import annotations
+
+from collections.abc import Sequence
+from ctypes import c_int64, c_uint16
+from typing import NamedTuple
+
+from ._c import library
+from ._values import accepted, as_list, as_memory, as_room, is_a, whole
+
+
+class Statement(NamedTuple):
+    """What a statement file says of itself: its first record's start, the count of its records and the sum of their coefficients."""
+
+    first: int
+    count: int
+    sum: int
+
+
+class Payout(NamedTuple):
+    """What a record says of one payout: the partner's place, the currency number, and the coefficient at the currency's own digits."""
+
+    place: int
+    currency: int
+    coefficient: int
+
+
+def write_statement(currency: int, places: Sequence[int], coefficients: Sequence[int], out: bytearray, start: int = 0) -> int:
+    """A statement file in `out` from the byte `start` on, a record for each payout and a trailer; the file's end. No other byte changes, and none
+    where the call is refused: refusals 3, 4, 9, 11."""
+    partners, count = as_list(c_uint16, "places", places)
+    payouts, others = as_list(c_int64, "coefficients", coefficients)
+    lent, room = as_room(is_a(bytearray, "out", out))
+    numbers = whole(c_int64, "currency", currency), whole(c_int64, "start", start)
+    return accepted(library.mkb_write_statement(numbers[0], partners, count, payouts, others, lent, room, numbers[1])).end
+
+
+def check_statement(data: bytes | bytearray | memoryview) -> Statement:
+    """The statement file that the bytes end in: refusal 14 where they end in none."""
+    answer = accepted(library.mkb_check_statement(*as_memory("data", data)))
+    return Statement(answer.first, answer.count, answer.sum)
+
+
+class View:
+    """An iterator over the payouts of the statement file that the bytes end in, in file order and each once: refusal 14 where they end in none. It
+    keeps hold of the bytes, which nobody should change meanwhile, and of its place among them."""
+
+    def __init__(self, data: bytes | bytearray | memoryview) -> None:
+        self._bytes, self._length = as_memory("data", data)
+        self._next = accepted(library.mkb_first_payout(self._bytes, self._length)).first
+
+    def __iter__(self) -> View:
+        return self
+
+    def __next__(self) -> Payout:
+        step = library.mkb_payout_at(self._bytes, self._length, self._next)
+        self._next = step.next
+        if step.ended:
+            raise StopIteration
+        return Payout(step.place, step.currency, step.coefficient)
