@@ -114,7 +114,7 @@ def past_limits():
 
 
 def texts_and_decimals():
-    same((str(euros(-1250)), str(euros(5, 0)), str(Amount(DEM, 6, -1)), str(euros(0))), ("-12.50 EUR", "5 EUR", "-0.000001 DEM", "0.00 EUR"))
+    same((str(euros(-1250)), str(euros(5, 0)), str(Amount(DEM, 6, -1)), str(euros(0))), ("EUR -12.50", "EUR 5", "DEM -0.000001", "EUR 0.00"))
     for text, amount in (("-12.50", euros(-1250)), ("0.00", euros(0)), ("1E+3", euros(1000, 0)), ("0.000001", euros(1, 6)), ("-0", euros(0, 0))):
         same(Amount.from_decimal(EUR, Decimal(text)), amount)
         same(Amount.from_decimal(EUR, amount.as_decimal()), amount)
@@ -141,6 +141,17 @@ def parsed():
     refused(3, Amount(21, 2, L + 1).text)
     refused(4, Amount(21, 2, 1).text)
     same((str(Amount(21, 2, 1)), str(euros(L + 1))), (repr(Amount(21, 2, 1)), repr(euros(L + 1))))
+    for currency in range(21):
+        amount = Amount(currency, 6, -L)
+        same((Amount.from_str(str(amount)), Amount.parse(*str(amount).split())), (amount, amount))
+    for number, words in (
+        (14, ""), (14, "12.50"), (14, "EUR"), (14, "EUR "), (14, "EUR  1"), (14, "EUR 1 "), (14, "EUR 01"),
+        (4, "12.50 EUR"), (4, " 1"), (4, "eur 1"), (4, "XXX 01"), (4, "\u20ac 1"), (13, "EUR " + "9" * 20),
+    ):
+        refused(number, lambda: Amount.from_str(words))
+    refused(4, lambda: Amount.parse("XXX", "1"))
+    named(TypeError, "words", lambda: Amount.from_str(5))
+    named(TypeError, "currency", lambda: Amount.parse(1.5, "1"))
     named(TypeError, "text", lambda: Amount.parse(EUR, b"1"))
     same([currency_of(currency_line(number).code) for number in range(21)], list(range(21)))
     same([currency_of(code) for code in ("", "EU", "EURO", "eur", "XXX")], [None] * 5)

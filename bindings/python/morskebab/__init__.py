@@ -11,11 +11,13 @@ whole number raises TypeError, and one that its C type can't hold OverflowError;
     >>> payouts
     (4, 2, 1)
     >>> print(sum([Amount(EUR, 2, 150), Amount(EUR, 1, 25)]))
-    4.00 EUR
+    EUR 4.00
     >>> Amount.parse(EUR, "-12.50")
     Amount(currency=0, scale=2, coefficient=-1250)
-    >>> Amount.parse(currency_of("DEM"), "100.00").text()
+    >>> Amount.parse("DEM", "100.00").text()
     '100.00'
+    >>> Amount.from_str("DEM 100.00")
+    Amount(currency=2, scale=2, coefficient=10000)
 """
 from __future__ import annotations
 
@@ -126,10 +128,19 @@ class Amount:
         return cls(c.currency, c.scale, c.coefficient)
 
     @classmethod
-    def parse(cls, currency: int, text: str) -> Amount:
-        """The amount that a text is: an optional minus, digits, optionally a point with 1 to 6 digits, which are the scale; no leading zeros but a single
-        0 before the point, no minus on zero, at most 20 characters: refusals 4, 14, 13."""
-        return cls._of(accepted(library.mkb_read(whole(c_int64, "currency", currency), *as_bytes("text", text))).amount)
+    def parse(cls, currency: int | str, text: str) -> Amount:
+        """The amount that a text of a currency, by its number or its code, is: an optional minus, digits, optionally a point with 1 to 6 digits, which
+        are the scale; no leading zeros but a single 0 before the point, no minus on zero, at most 20 characters: refusals 4, 14, 13."""
+        number = library.mkb_currency_of(*as_bytes("currency", currency)) if isinstance(currency, str) else whole(c_int64, "currency", currency)
+        return cls._of(accepted(library.mkb_read(number, *as_bytes("text", text))).amount)
+
+    @classmethod
+    def from_str(cls, words: str) -> Amount:
+        """What `str` writes: refusal 14 where there is no space, 4 where the table hasn't the code, then those of `parse`."""
+        code, space, text = is_a(str, "words", words).partition(" ")
+        if not space:
+            raise Refused(14)
+        return cls.parse(code, text)
 
     def text(self) -> str:
         """The amount's only text, which `parse` reads: refusals 2, 3, 4."""
@@ -152,8 +163,9 @@ class Amount:
         return Decimal((int(self.coefficient < 0), tuple(map(int, str(abs(self.coefficient)))), -self.scale))
 
     def __str__(self) -> str:
+        """The code, a space and the amount's only text; what is no amount is shown as by `repr`."""
         try:
-            return f"{self.text()} {bytes(library.mkb_currency(self.currency).code).decode()}"
+            return f"{bytes(library.mkb_currency(self.currency).code).decode()} {self.text()}"
         except Refused:
             return repr(self)
 

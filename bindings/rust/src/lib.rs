@@ -8,6 +8,7 @@
 //! let euros = |cents| Amount::new(Currency(0), 2, cents);
 //! assert_eq!(Amount::new(Currency(2), 2, 10_000).convert(Currency(0)), Ok(euros(5_113)));
 //! assert_eq!(Amount::parse(Currency(0), "-12.50"), Ok(euros(-1_250)));
+//! assert_eq!(("EUR -12.50".parse(), euros(-1_250).to_string().as_str()), (Ok(euros(-1_250)), "EUR -12.50"));
 //! let book = Book::open(Currency(0), &[5, 3, 2])?;
 //! assert_eq!(book.post(euros(7))?.payouts[..3], [4, 2, 1]);
 //! # Ok::<(), morskebab::Refusal>(())
@@ -17,6 +18,7 @@ mod books;
 mod ffi;
 mod refusal;
 mod statements;
+mod texts;
 
 pub use books::{Book, Moved};
 pub use refusal::{Blamed, Refusal};
@@ -81,13 +83,6 @@ pub struct Line {
 }
 
 impl Currency {
-    /// The currency with this code of three capitals, if the table has it.
-    pub fn of_code(code: &str) -> Option<Currency> {
-        // SAFETY: a slice is lent whole
-        let number = unsafe { ffi::mkb_currency_of(code.as_ptr(), code.len()) };
-        (number != u8::MAX).then_some(Currency(number))
-    }
-
     /// The table's line; all 0 for a number over 20.
     pub fn line(self) -> Line {
         // SAFETY: a number alone crosses
@@ -164,30 +159,9 @@ impl Row {
 impl Amount {
     /// The largest magnitude of a coefficient.
     pub const L: i64 = 999_999_999_999_999;
-    /// The most characters of a text.
-    pub const TEXT: usize = 20;
 
     pub const fn new(currency: Currency, scale: u8, coefficient: i64) -> Self {
         Amount { currency, scale, coefficient }
-    }
-
-    /// The amount that a text is: an optional minus, digits, optionally a point with 1 to 6 digits, which are the scale; no leading zeros but a
-    /// single 0 before the point, no minus on zero, at most 20 characters: refusals 4, 14, 13.
-    pub fn parse(currency: Currency, text: &str) -> Result<Amount, Refusal> {
-        unsafe { ffi::mkb_read(currency.0.into(), text.as_ptr(), text.len()) }.into()
-    }
-
-    /// The amount's only text, which [`Amount::parse`] reads: refusals 2, 3, 4.
-    pub fn text(self) -> Result<String, Refusal> {
-        let mut out = [0; Self::TEXT];
-        self.write_text(&mut out).map(|length| out[..length].iter().map(|byte| char::from(*byte)).collect())
-    }
-
-    /// The same into the first places of `out`, and its length; the others, and every place where the call is refused, stay as they stood:
-    /// refusals 2, 3, 4, 11.
-    pub fn write_text(self, out: &mut [u8]) -> Result<usize, Refusal> {
-        let r = unsafe { ffi::mkb_write(self.into(), out.as_mut_ptr(), out.len()) };
-        Refusal::or(r.refusal, r.blamed, r.length as usize)
     }
 
     /// Exact, at the greater of the two scales: refusals 2, 3, 4, 5, 13.

@@ -114,6 +114,45 @@ fn texts() {
 }
 
 #[test]
+fn shown_and_read() {
+    for (words, currency, scale, coefficient) in
+        [("EUR -12.50", EUR, 2, -1_250), ("DEM 0", DEM, 0, 0), ("HRK -0.000001", Currency(20), 6, -1), ("EUR 0.00", EUR, 2, 0)]
+    {
+        let a = Amount::new(currency, scale, coefficient);
+        assert_eq!((a.to_string().as_str(), words.parse(), words[..3].parse()), (words, Ok(a), Ok(currency)));
+        assert_eq!(format!("{a:>16}|{a:<16}|{currency:>5}"), format!("{words:>16}|{words:<16}|  {}", &words[..3]));
+    }
+    for number in 0..=20 {
+        let a = Amount::new(Currency(number), 6, -Amount::L);
+        assert_eq!((a.to_string().parse(), a.currency.to_string().parse()), (Ok(a), Ok(a.currency)));
+    }
+    for (words, refusal) in [
+        ("", Refusal::Malformed),
+        ("12.50", Refusal::Malformed),
+        ("EUR", Refusal::Malformed),
+        ("EUR ", Refusal::Malformed),
+        ("EUR  1", Refusal::Malformed),
+        ("EUR 1 ", Refusal::Malformed),
+        ("EUR 01", Refusal::Malformed),
+        ("12.50 EUR", Refusal::Unknown),
+        (" 1", Refusal::Unknown),
+        ("eur 1", Refusal::Unknown),
+        ("XXX 01", Refusal::Unknown),
+        ("EUR 99999999999999999999", Refusal::Limit),
+    ] {
+        assert_eq!(words.parse::<Amount>(), Err(refusal), "{words}");
+    }
+    for code in ["", "EU", "EURO", "eur", "XXX"] {
+        assert_eq!(code.parse::<Currency>(), Err(Refusal::Unknown));
+    }
+    // what is no amount has no text
+    for a in [Amount::new(Currency(21), 2, 1), euros(Amount::L + 1), Amount::new(EUR, 7, 1)] {
+        assert_eq!(a.to_string(), format!("{a:?}"));
+    }
+    assert_eq!(Currency(21).to_string(), "Currency(21)");
+}
+
+#[test]
 fn versions_and_words() {
     let parts: Vec<u32> = env!("CARGO_PKG_VERSION").split('.').map(|part| part.parse().expect("a number")).collect();
     assert_eq!(version(), 10_000 * parts[0] + 100 * parts[1] + parts[2]);
