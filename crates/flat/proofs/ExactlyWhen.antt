@@ -8,7 +8,7 @@ use native.Mathlib.Omega.{arith}
 use Rattle.refusal.specs.Number.{numberOf}
 use Rattle.refusal.specs.Rows.{Said, gives, refuses, Row, row, firstRow}
 use Rattle.refusal.specs.declared.Refusal.{Refusal}
-use Rattle.refusal.specs.declared.Refusal.the-variants.{Mode, Scale, Magnitude, Unknown, Differ, Rate, Date, Days, Weights, Negative, Room, Refund, Limit, Malformed, NoNet, NoNumber}
+use Rattle.refusal.specs.declared.Refusal.the-variants.{Mode, Scale, Magnitude, Unknown, Differ, Rate, Date, Days, Weights, Negative, Room, Refund, Limit, Malformed, NoNet, NoNumber, Newer}
 use Rattle.flat.specs.Answers.{refusalOf}
 
 never-nought : (r : Refusal) → numberOf r ≡ 0 → ⊥
@@ -28,6 +28,7 @@ never-nought Limit e = omega arith
 never-nought Malformed e = omega arith
 never-nought NoNet e = omega arith
 never-nought NoNumber e = omega arith
+never-nought Newer e = omega arith
 
 -- what the rows of a call say has the number 0 only where what stands behind them is said
 pub passes : {A : Type 0} (rows : List Row) (said : Said A) → refusalOf (firstRow rows said) ≡ 0 → firstRow rows said ≡ said

@@ -10,7 +10,7 @@ use native.Mathlib.Omega.{arith}
 use lib.Dec.{T, leb, leb→le}
 use lib.ListN.{getD}
 use Rattle.refusal.specs.declared.Refusal.{Refusal}
-use Rattle.refusal.specs.declared.Refusal.the-variants.{Mode, Scale, Magnitude, Unknown, Differ, Rate, Date, Days, Weights, Negative, Room, Refund, Limit, Malformed, NoNet, NoNumber}
+use Rattle.refusal.specs.declared.Refusal.the-variants.{Mode, Scale, Magnitude, Unknown, Differ, Rate, Date, Days, Weights, Negative, Room, Refund, Limit, Malformed, NoNet, NoNumber, Newer}
 use Rattle.refusal.specs.Number.{numberOf, blamedOf}
 use Rattle.refusal.specs.Rank.{asked, rankOf}
 use Rattle.refusal.specs.Rows.{Said, gives, refuses, Row, row, numberAt, holdsAt, rankAt, firstRow, risingFrom, rising, Holds, here, later}
@@ -45,6 +45,7 @@ in-order Limit = refl
 in-order Malformed = refl
 in-order NoNet = refl
 in-order NoNumber = refl
+in-order Newer = refl
 
 -- and so is every number of which a row holds
 held-in-order : (n : ℕ) (rows : List Row) → Holds n rows → getD asked (rankOf n) 0 ≡ n

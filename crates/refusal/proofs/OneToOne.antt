@@ -4,7 +4,7 @@ use Prim.Native.Nat.{ℕ}
 use native.Mathlib.Omega.{arith}
 use Rattle.refusal.specs.declared.Blamed.the-variants.{First, Second}
 use Rattle.refusal.specs.declared.Refusal.{Refusal}
-use Rattle.refusal.specs.declared.Refusal.the-variants.{Mode, Scale, Magnitude, Unknown, Differ, Rate, Date, Days, Weights, Negative, Room, Refund, Limit, Malformed, NoNet, NoNumber}
+use Rattle.refusal.specs.declared.Refusal.the-variants.{Mode, Scale, Magnitude, Unknown, Differ, Rate, Date, Days, Weights, Negative, Room, Refund, Limit, Malformed, NoNet, NoNumber, Newer}
 use Rattle.refusal.specs.Number.{numberOf, blamedOf}
 use Rattle.refusal.specs.Rows.{Said, refuses, meansOutcome}
 use Rattle.refusal.specs.declared.Checked.{Checked}
@@ -15,7 +15,7 @@ use lib.ListN.{getD}
 -- the case that a number and a blamed date stand for
 abbrev caseOf : ℕ → ℕ → Refusal
 caseOf n b =
-    getD (Limit ∷ Mode ∷ Scale ∷ Magnitude ∷ Unknown ∷ Differ ∷ Rate ∷ getD (Limit ∷ Date First ∷ Date Second ∷ []) b Limit ∷ Days ∷ Weights ∷ Negative ∷ Room ∷ Refund ∷ Limit ∷ Malformed ∷ NoNet ∷ NoNumber ∷ []) n Limit
+    getD (Limit ∷ Mode ∷ Scale ∷ Magnitude ∷ Unknown ∷ Differ ∷ Rate ∷ getD (Limit ∷ Date First ∷ Date Second ∷ []) b Limit ∷ Days ∷ Weights ∷ Negative ∷ Room ∷ Refund ∷ Limit ∷ Malformed ∷ NoNet ∷ NoNumber ∷ Newer ∷ []) n Limit
 
 back : (r : Refusal) → caseOf (numberOf r) (blamedOf r) ≡ r
 back Mode = refl
@@ -35,6 +35,7 @@ back Limit = refl
 back Malformed = refl
 back NoNet = refl
 back NoNumber = refl
+back Newer = refl
 
 pub same-case : (r s : Refusal) → numberOf r ≡ numberOf s → blamedOf r ≡ blamedOf s → r ≡ s
 same-case r s number blamed = sym (back r) ∙ ap₂ caseOf number blamed ∙ back s

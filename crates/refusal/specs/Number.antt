@@ -6,7 +6,7 @@ use Rattle.refusal.specs.declared.Checked.the-variants.{Passed, Refused}
 use Rattle.refusal.specs.declared.Blamed.{Blamed}
 use Rattle.refusal.specs.declared.Blamed.the-variants.{First, Second}
 use Rattle.refusal.specs.declared.Refusal.{Refusal}
-use Rattle.refusal.specs.declared.Refusal.the-variants.{Mode, Scale, Magnitude, Unknown, Differ, Rate, Date, Days, Weights, Negative, Room, Refund, Limit, Malformed, NoNet, NoNumber}
+use Rattle.refusal.specs.declared.Refusal.the-variants.{Mode, Scale, Magnitude, Unknown, Differ, Rate, Date, Days, Weights, Negative, Room, Refund, Limit, Malformed, NoNet, NoNumber, Newer}
 
 -- "which of the two dates it blames": the first is 1, the second 2
 abbrev pub placeOf : Blamed → ℕ
@@ -30,6 +30,7 @@ numberOf Limit = 13
 numberOf Malformed = 14
 numberOf NoNet = 15
 numberOf NoNumber = 16
+numberOf Newer = 17
 
 -- "a refusal of a date also says which of the two dates it blames": 0 for every other refusal
 abbrev pub blamedOf : Refusal → ℕ
@@ -49,6 +50,7 @@ blamedOf Limit = 0
 blamedOf Malformed = 0
 blamedOf NoNet = 0
 blamedOf NoNumber = 0
+blamedOf Newer = 0
 
 -- a check's answer by its number and the date that it blames: both 0 where the check passes
 abbrev pub numberIn : Checked → ℕ

@@ -43,6 +43,8 @@ pub enum Refusal {
     NoNet,
     // 16: a double is no number or infinite
     NoNumber,
+    // 17: a statement is of a newer version than its reader
+    Newer,
 }
 
 // The answer of a check: nothing to refuse, or the first row that holds.
@@ -65,7 +67,7 @@ impl Blamed {
 
 impl Refusal {
     // The table's last number.
-    pub const LAST: u8 = 16;
+    pub const LAST: u8 = 17;
 
     // The table's number.
     pub fn number(self) -> u8
@@ -88,6 +90,7 @@ impl Refusal {
             Refusal::Malformed => 14,
             Refusal::NoNet => 15,
             Refusal::NoNumber => 16,
+            Refusal::Newer => 17,
         }
     }
 
@@ -112,6 +115,7 @@ impl Refusal {
             Refusal::Malformed => 0,
             Refusal::NoNet => 0,
             Refusal::NoNumber => 0,
+            Refusal::Newer => 0,
         }
     }
 }
