@@ -2,6 +2,7 @@
 -- stands before it does. Assumes nothing.
 use mathlib.Core.Path.{_≡_}
 use mathlib.Core.Logic.{_↔_}
+use mathlib.Core.Bool.{true, false}
 use mathlib.Core.List.{List}
 use Prim.Native.Nat.{ℕ, _+_}
 use lib.IntN.{ℤ}
@@ -11,16 +12,16 @@ use Rattle.refusal.proofs.ExactlyWhen.{Given, NoneBelow, exactly-when}
 use Rattle.currency.specs.declared.Currency.{Currency}
 use Rattle.statement.specs.Files.{fileSize}
 use Rattle.statement.specs.Writing.{writeRows, writeSaid}
-use Rattle.statement.specs.Reading.{readRows, summaryOf, readSaid}
+use Rattle.statement.specs.Reading.{versionRows, readRows, summaryOf, readSaid}
 
 pub write-exactly-when : (currency : Currency) (places : List ℕ) (coefficients : List ℤ) (room start n : ℕ)
     → ((blamed : ℕ) × (writeSaid currency places coefficients room start ≡ refuses n blamed))
     ↔ (Holds n (writeRows currency places coefficients room start) × NoneBelow n (writeRows currency places coefficients room start))
 unfolding writeSaid writeRows Given
 write-exactly-when currency places coefficients room start n =
-    exactly-when (start + fileSize (length places)) n (writeRows currency places coefficients room start) tt
+    exactly-when (start + fileSize false (length places)) n (writeRows currency places coefficients room start) tt
 
 pub check-exactly-when : (bytes : List ℕ) (n : ℕ)
     → ((blamed : ℕ) × (readSaid bytes ≡ refuses n blamed)) ↔ (Holds n (readRows bytes) × NoneBelow n (readRows bytes))
-unfolding readSaid readRows Given
+unfolding readSaid readRows versionRows Given
 check-exactly-when bytes n = exactly-when (summaryOf bytes) n (readRows bytes) tt

@@ -6,9 +6,11 @@ mod Any
 pub mod Totals
 pub mod Fields
 mod Behind
+mod Widths
 mod Walk
 mod Run
 pub mod Accepted
+mod Heads
 mod Answered
 mod Held
 mod Ending

@@ -1,19 +1,21 @@
 -- A loop that puts records into a buffer from a start on: its start, a turn and its end. Assumes nothing.
 use mathlib.Core.Path.{_≡_, refl, sym, _∙_, ap}
+use mathlib.Core.Bool.{Bool, true, false}
 use mathlib.Core.List.{List, [], _++_}
 use Prim.Native.Nat.{ℕ, _+_, _*_, _≤_, _<_}
 use native.Mathlib.Omega.{arith}
 use lib.ListN.{length}
 use Rattle.statement.specs.Bytes.{fieldBytes, pasted}
-use Rattle.statement.specs.Files.{Piece, recordFields, recordBytes, joined, trailerFields, trailerBytes, trailerWidth}
+use Rattle.statement.specs.Files.{Piece, recordWidth, recordFields, recordBytes, joined, trailerFields, trailerBytes, trailerWidth}
 use Rattle.statement.proofs.Pasting.{length-pasted, paste-nothing, paste-behind}
 use Rattle.statement.proofs.Behind.{joined-none, joined-more, length-joined}
 use Rattle.statement.proofs.Fields.{length-fields}
 use lib.IntN.{ℤ}
 
-pub length-record : (p : Piece) → length (recordBytes p) ≡ 16
+pub length-record : (reasons : Bool) (p : Piece) → length (recordBytes reasons p) ≡ recordWidth reasons
 unfolding recordBytes
-length-record p = length-fields (recordFields p)
+length-record false p = length-fields (recordFields false p)
+length-record true p = length-fields (recordFields true p)
 
 pub length-trailer : (width count : ℕ) (sum : ℤ) (version : ℕ) → length (trailerBytes width count sum version) ≡ trailerWidth
 unfolding trailerBytes

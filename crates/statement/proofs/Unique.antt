@@ -6,7 +6,7 @@ use native.Mathlib.Omega.{arith}
 use lib.IntN.{ℤ}
 use lib.ListN.{length}
 use Rattle.refusal.specs.declared.Checked.{Checked}
-use Rattle.refusal.specs.Rows.{meansOutcome}
+use Rattle.refusal.specs.Rows.{Said, meansOutcome}
 use Rattle.refusal.proofs.OneToOne.{same-refusal, same-outcome}
 use Rattle.currency.specs.declared.Currency.{Currency}
 use Rattle.statement.specs.declared.Written.{Written}
@@ -17,19 +17,23 @@ use Rattle.statement.specs.Files.{fileBytes}
 use Rattle.statement.specs.Writing.{payout, writeSaid, endIn, bufferAfter}
 use Rattle.statement.specs.Reading.{meansFound, readSaid}
 
-module _ (currency : Currency) (places : List ℕ) (coefficients : List ℤ) (out : List ℕ) (start : ℕ) where
-  -- what the promise of `write` says of an answer and the buffer afterwards
-  abbrev pub Promised : Written → List ℕ → Type 0
-  Promised r after =
-      (meansOutcome (r .outcome) (r .end) ≡ writeSaid currency places coefficients (length out) start)
-      × (r .end ≡ endIn (writeSaid currency places coefficients (length out) start))
-      × (after ≡ bufferAfter (writeSaid currency places coefficients (length out) start) start (fileBytes (payout currency places coefficients) (length places)) out)
+-- what the promise of a call that writes says of its answer and the buffer afterwards, by what the call says, its file and the buffer before
+abbrev pub Promised : Said ℕ → (start : ℕ) → (file out : List ℕ) → Written → List ℕ → Type 0
+Promised said start file out r after =
+    (meansOutcome (r .outcome) (r .end) ≡ said) × (r .end ≡ endIn said) × (after ≡ bufferAfter said start file out)
 
-  pub one-write : (r s : Written) (o p : List ℕ) → Promised r o → Promised s p → (r ≡ s) × (o ≡ p)
-  one-write r s o p first second =
-      let outcome = same-outcome (r .outcome) (s .outcome) (r .end) (s .end) (first .0 ∙ sym (second .0)) in
-      let end = first .1 ∙ sym (second .1) in
-      (ap₂ (λ (k : Checked) (n : ℕ). record { outcome = k; end = n }) outcome end, first .2 ∙ sym (second .2))
+one-written : (said : Said ℕ) (start : ℕ) (file out : List ℕ) (r s : Written) (o p : List ℕ) → Promised said start file out r o → Promised said start file out s p → (r ≡ s) × (o ≡ p)
+one-written said start file out r s o p first second =
+    let outcome = same-outcome (r .outcome) (s .outcome) (r .end) (s .end) (first .0 ∙ sym (second .0)) in
+    let end = first .1 ∙ sym (second .1) in
+    (ap₂ (λ (k : Checked) (n : ℕ). record { outcome = k; end = n }) outcome end, first .2 ∙ sym (second .2))
+
+module _ (currency : Currency) (places : List ℕ) (coefficients : List ℤ) (out : List ℕ) (start : ℕ) where
+  abbrev pub Wrote : Written → List ℕ → Type 0
+  Wrote = Promised (writeSaid currency places coefficients (length out) start) start (fileBytes (payout currency places coefficients) (length places)) out
+
+  pub one-write : (r s : Written) (o p : List ℕ) → Wrote r o → Wrote s p → (r ≡ s) × (o ≡ p)
+  one-write = one-written (writeSaid currency places coefficients (length out) start) start (fileBytes (payout currency places coefficients) (length places)) out
 
 same-found : (r s : Found) → meansFound r ≡ meansFound s → r ≡ s
 same-found (Value a) (Value b) e = let same : a ≡ b = cc in ap Value same

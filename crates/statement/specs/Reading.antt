@@ -1,8 +1,9 @@
 -- Document 02, Ask 3, "A reader is given bytes whose end is the trailer's end; it accepts exactly such files (else 14): version 1, at most 4,000
 -- records, distance 16 x count and inside the bytes, the sum right, all zeros zero, one known currency, places 0 to 15, coefficients within
--- L. It answers the first record's start, the count and the sum." Row 14 by the numbers in the bytes; that it holds for all bytes but those
--- that end in a file of `Files` is `exactly` in proofs/Exactly.antt. Cited by `check`. Assumes nothing.
-use mathlib.Core.Bool.{Bool, not, _||_}
+-- L. It answers the first record's start, the count and the sum." Ask 13, "The new reader takes both versions", "17 is given when the last 24
+-- bytes hold version 2 and six zeros, and before 14". The rows by the numbers in the bytes; that 14 holds for all bytes but those that end
+-- in a file of `Files` is `exactly` and `any-exactly` in proofs/Exactly.antt. Cited by `check` and `check_any`. Assumes nothing.
+use mathlib.Core.Bool.{Bool, true, false, not, _||_, _&&_}
 use mathlib.Core.List.{List, [], _∷_, _++_}
 use Prim.Native.Nat.{ℕ, _+_, _*_, _-_}
 use lib.Dec.{ltb, eqb}
@@ -10,16 +11,17 @@ use lib.IntN.{ℤ}
 use lib.ListN.{length}
 use Rattle.refusal.specs.Number.{numberOf, blamedOf}
 use Rattle.refusal.specs.Rows.{Said, gives, refuses, Row, row, firstRow}
-use Rattle.refusal.specs.declared.Refusal.the-variants.{Malformed}
+use Rattle.refusal.specs.declared.Refusal.the-variants.{Malformed, Newer}
 use Rattle.whole.specs.Whole.{magnitudeOf}
 use Rattle.currency.specs.Table.{lastCurrency}
 use Rattle.amount.specs.Amounts.{overL}
 use Rattle.statement.specs.declared.Trailer.{Trailer}
 use Rattle.statement.specs.declared.Summary.{Summary}
+use Rattle.statement.specs.declared.SummaryOfAny.{SummaryOfAny}
 use Rattle.statement.specs.declared.Found.{Found}
 use Rattle.statement.specs.declared.Found.the-variants.{Value, Refused}
 use Rattle.statement.specs.Bytes.{numberAt, wordOf, fromWord}
-use Rattle.statement.specs.Files.{recordWidth, trailerWidth, mostRecords, lastPlace, totalOf}
+use Rattle.statement.specs.Files.{versionOf, recordWidth, codeBytes, codeZeros, trailerWidth, mostRecords, lastPlace, lastReason, totalOf}
 use Rattle.statement.specs.Writing.{anyOf}
 
 -- what each case of the answer says
@@ -48,7 +50,8 @@ trailerIn bytes = trailerAt bytes (trailerPlace bytes)
 abbrev pub firstOf : (place : ℕ) → Trailer → ℕ
 firstOf place t = place - t .distance
 
--- the rows at a trailer: "version 1", its zeros, "at most 4,000 records, distance 16 x count and inside the bytes"
+-- the rows at a trailer: "version 1", its zeros, "at most 4,000 records, distance 16 x count and inside the bytes"; of version 2 "distance is
+-- 24 x count"
 abbrev pub trailerRows : (width version place : ℕ) → Trailer → List Row
 trailerRows width version place t =
     row Malformed (not (eqb (t .version) version))
@@ -74,35 +77,57 @@ badNumbers place currency agreed zeros word =
     ltb lastPlace place
     || (ltb lastCurrency currency || (not (eqb currency agreed) || (not (eqb zeros 0) || overL (magnitudeOf (fromWord word)))))
 
-unfoldable pub badRecord : List ℕ → (agreed at : ℕ) → Bool
-badRecord bytes agreed at =
+-- what a record of version 2 has behind them: "A code over 99 is ... 14 when read"; read from no bytes, both numbers are 0
+abbrev pub badCode : (reasons : Bool) → (code zeros : ℕ) → Bool
+badCode reasons code zeros = ltb (lastReason reasons) code || not (eqb zeros 0)
+
+unfoldable pub badRecord : (reasons : Bool) → List ℕ → (agreed at : ℕ) → Bool
+badRecord reasons bytes agreed at =
     badNumbers (numberAt bytes at 2) (numberAt bytes (at + 2) 2) agreed (numberAt bytes (at + 4) 4) (numberAt bytes (at + 8) 8)
+    || badCode reasons (numberAt bytes (at + 16) (codeBytes reasons)) (numberAt bytes (at + (16 + codeBytes reasons)) (codeZeros reasons))
 
 -- the rows at the records: each of them, and "the sum right"
 abbrev pub agreedIn : List ℕ → (first : ℕ) → ℕ
 agreedIn bytes first = numberAt bytes (first + 2) 2
 
-abbrev pub recordRows : List ℕ → (width first count word : ℕ) → List Row
-recordRows bytes width first count word =
-    row Malformed (anyOf (λ i. badRecord bytes (agreedIn bytes first) (recordPlace width first i)) count)
-    ∷ row Malformed (not (eqb (wordOf (totalOf (coefficientsIn bytes width first) count)) word))
+abbrev pub recordRows : (reasons : Bool) → List ℕ → (first count word : ℕ) → List Row
+recordRows reasons bytes first count word =
+    row Malformed (anyOf (λ i. badRecord reasons bytes (agreedIn bytes first) (recordPlace (recordWidth reasons) first i)) count)
+    ∷ row Malformed (not (eqb (wordOf (totalOf (coefficientsIn bytes (recordWidth reasons) first) count)) word))
     ∷ []
 
--- the rows of the call: too few bytes for a trailer, the trailer's, the records'
-abbrev pub fileRows : List ℕ → (width version place : ℕ) → Trailer → List Row
-fileRows bytes width version place t =
-    trailerRows width version place t ++ recordRows bytes width (firstOf place t) (t .count) (t .sum)
+-- the rows of a reader of one version: too few bytes for a trailer, the trailer's, the records'
+abbrev pub fileRows : (reasons : Bool) → List ℕ → (place : ℕ) → Trailer → List Row
+fileRows reasons bytes place t =
+    trailerRows (recordWidth reasons) (versionOf reasons) place t ++ recordRows reasons bytes (firstOf place t) (t .count) (t .sum)
 
+unfoldable pub versionRows : (reasons : Bool) → List ℕ → List Row
+versionRows reasons bytes =
+    (row Malformed (ltb (length bytes) trailerWidth) ∷ []) ++ fileRows reasons bytes (trailerPlace bytes) (trailerIn bytes)
+
+-- "when the last 24 bytes hold version 2 and six zeros"
+abbrev pub newerAt : Trailer → Bool
+newerAt t = eqb (t .version) (versionOf true) && eqb (t .zeros) 0
+
+unfoldable pub newer : List ℕ → Bool
+newer bytes = not (ltb (length bytes) trailerWidth) && newerAt (trailerIn bytes)
+
+-- the rows of the reader of Ask 3, "amended by that and nothing else"
 unfoldable pub readRows : List ℕ → List Row
-readRows bytes =
-    (row Malformed (ltb (length bytes) trailerWidth) ∷ []) ++ fileRows bytes recordWidth 1 (trailerPlace bytes) (trailerIn bytes)
+readRows bytes = (row Newer (newer bytes) ∷ []) ++ versionRows false bytes
 
--- "the first record's start, the count and the sum"
-unfoldable pub summaryOf : List ℕ → Summary
-summaryOf bytes =
+-- "the first record's start, the count and the sum", with the version
+unfoldable pub summaryIn : (reasons : Bool) → List ℕ → SummaryOfAny
+summaryIn reasons bytes =
     let t : Trailer = trailerIn bytes in
     let first : ℕ = firstOf (trailerPlace bytes) t in
-    record { first = first; count = t .count; sum = totalOf (coefficientsIn bytes recordWidth first) (t .count) }
+    record { version = versionOf reasons; first = first; count = t .count; sum = totalOf (coefficientsIn bytes (recordWidth reasons) first) (t .count) }
+
+abbrev pub plainly : SummaryOfAny → Summary
+plainly s = record { first = s .first; count = s .count; sum = s .sum }
+
+abbrev pub summaryOf : List ℕ → Summary
+summaryOf bytes = plainly (summaryIn false bytes)
 
 unfoldable pub readSaid : List ℕ → Said Summary
 readSaid bytes = firstRow (readRows bytes) (gives (summaryOf bytes))

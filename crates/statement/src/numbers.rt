@@ -31,6 +31,24 @@ pub(crate) fn number_at(bytes: &[u8], at: usize, count: usize) -> u64
     number
 }
 
+// The number of four bytes, and of eight, in one expression: one load of the machine.
+fn four_at(bytes: &[u8], at: usize) -> u64
+    requires { ⌜ at + 4 ≤ length (now bytes) ⌝ }
+    ensures { λ r. ⌜ r ≡ numberAt (now (bytes .entry)) at 4 ⌝ }
+{
+    wide(bytes[at])
+        + 256 * wide(bytes[at + 1])
+        + 65_536 * wide(bytes[at + 2])
+        + 16_777_216 * wide(bytes[at + 3])
+}
+
+pub(crate) fn eight_at(bytes: &[u8], at: usize) -> u64
+    requires { ⌜ at + 8 ≤ length (now bytes) ⌝ }
+    ensures { λ r. ⌜ r ≡ numberAt (now (bytes .entry)) at 8 ⌝ }
+{
+    four_at(bytes, at) + 4_294_967_296 * four_at(bytes, at + 4)
+}
+
 // So many bytes of a number to the places from one on.
 pub(crate) fn put_number(out: &mut [u8], at: usize, count: usize, number: u64)
     requires { ⌜ at + count ≤ length (now out) ⌝ }

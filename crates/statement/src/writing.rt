@@ -1,31 +1,35 @@
 // A run of payouts as a statement file in a lent buffer.
 use crate::PLACE;
-use crate::RECORD;
+use crate::REASON;
 use crate::RECORDS;
 use crate::TRAILER;
 use crate::Written;
 use crate::numbers::add;
 use crate::records::put_record_at;
 use crate::records::put_trailer_at;
+use crate::version_of;
+use crate::width_of;
 use amount::Amount;
 use currency::Currency;
 use refusal::Checked;
 use refusal::Refusal;
 use whole::magnitude;
 ghost use mathlib.Core.Path.{_≡_};
+ghost use mathlib.Core.Bool.{not, true, false};
 ghost use mathlib.Core.List.{[]};
 ghost use Prim.Native.Nat.{_+_, _*_, _≤_};
+ghost use lib.Dec.{eqb};
 ghost use lib.IntN.{pos};
 ghost use lib.ListN.{length, getD};
 ghost use Rattle.refusal.specs.Rows.{checkOf, meansOutcome};
 ghost use Rattle.statement.specs.Bytes.{pasted};
-ghost use Rattle.statement.specs.Files.{recordBytes, recordWidth, fileBytes, fileSize, joined, totalOf};
-ghost use Rattle.statement.specs.Writing.{anyOf, overAt, farAt, runRows, writeRows, payout, writeSaid, endIn, bufferAfter};
+ghost use Rattle.statement.specs.Files.{recordBytes, recordWidth, fileOf, fileBytes, fileSize, joined, totalOf};
+ghost use Rattle.statement.specs.Writing.{anyOver, anyPast, runRows, writeRows, reasonsRows, payoutWith, payout, writeSaid, reasonsSaid, endIn, bufferAfter};
 ghost use Rattle.statement.specs.Parts.{Few, Writable};
 
 // Whether a coefficient is over L.
 fn any_over(coefficients: &[i64]) -> bool
-    ensures { λ r. ⌜ r ≡ anyOf (overAt (now (coefficients .entry))) (length (now (coefficients .entry))) ⌝ }
+    ensures { λ r. ⌜ r ≡ anyOver (now (coefficients .entry)) ⌝ }
 {
     let mut i = 0;
     while i < coefficients.len() {
@@ -37,13 +41,13 @@ fn any_over(coefficients: &[i64]) -> bool
     false
 }
 
-// Whether a place is over the last.
-fn any_far(places: &[u16]) -> bool
-    ensures { λ r. ⌜ r ≡ anyOf (farAt (now (places .entry))) (length (now (places .entry))) ⌝ }
+// Whether a number of a list is over the last.
+fn any_past(last: u16, numbers: &[u16]) -> bool
+    ensures { λ r. ⌜ r ≡ anyPast last (now (numbers .entry)) ⌝ }
 {
     let mut i = 0;
-    while i < places.len() {
-        if PLACE < places[i] {
+    while i < numbers.len() {
+        if last < numbers[i] {
             return true;
         }
         i += 1;
@@ -51,18 +55,25 @@ fn any_far(places: &[u16]) -> bool
     false
 }
 
-// Rows 3, 4, 9 and 11 at a run: whether a coefficient is over L and a place over the last, the currency, the lengths of the lists, and
-// the buffer's length with the start in it.
+fn differ(one: usize, other: usize) -> bool
+    ensures { λ r. ⌜ r ≡ not (eqb one other) ⌝ }
+{
+    one != other
+}
+
+// Rows 3, 4, 9 and 11 at a run: whether a coefficient is over L, the lists are uneven and one of their numbers is too far, the currency, the
+// count, and the buffer's length with the start in it.
 fn check_run(
+    reasons: bool,
     over: bool,
     currency: Currency,
-    count: usize,
-    others: usize,
+    uneven: bool,
     far: bool,
+    count: usize,
     room: usize,
     start: usize,
 ) -> Checked
-    ensures { λ r. ⌜ r ≡ checkOf (runRows over currency count others far room start) ⌝ }
+    ensures { λ r. ⌜ r ≡ checkOf (runRows reasons over currency uneven far count room start) ⌝ }
 {
     if over {
         return Checked::Refused(Refusal::Magnitude);
@@ -70,7 +81,7 @@ fn check_run(
     if Currency::LAST < currency.0 {
         return Checked::Refused(Refusal::Unknown);
     }
-    if count != others {
+    if uneven {
         return Checked::Refused(Refusal::Weights);
     }
     if far {
@@ -82,13 +93,13 @@ fn check_run(
     if room < start {
         return Checked::Refused(Refusal::Room);
     }
-    if room - start < RECORD * count + TRAILER {
+    if room - start < width_of(reasons) * count + TRAILER {
         return Checked::Refused(Refusal::Room);
     }
     Checked::Passed
 }
 
-// The first row that holds for what the call takes.
+// The first row that holds for what a call takes.
 fn check(
     currency: Currency,
     places: &[u16],
@@ -99,11 +110,12 @@ fn check(
     ensures { λ r. ⌜ r ≡ checkOf (writeRows currency (now (places .entry)) (now (coefficients .entry)) room start) ⌝ }
 {
     check_run(
+        false,
         any_over(coefficients),
         currency,
+        differ(places.len(), coefficients.len()),
+        any_past(PLACE, places),
         places.len(),
-        coefficients.len(),
-        any_far(places),
         room,
         start,
     )
@@ -123,24 +135,35 @@ fn sum_of(coefficients: &[i64]) -> i64
     sum
 }
 
+// A payout's code; 0 where there are none.
+fn code_at(codes: &[u16], i: usize) -> u16
+    ensures { λ r. ⌜ r ≡ getD (now (codes .entry)) i 0 ⌝ }
+{
+    if i < codes.len() { codes[i] } else { 0 }
+}
+
 // A record for each payout from the start on, each into what is still free.
 fn put_records(
+    reasons: bool,
     currency: Currency,
     places: &[u16],
+    codes: &[u16],
     coefficients: &[i64],
     out: &mut [u8],
     start: usize,
 ) -> usize
     requires { ⌜ length (now places) ≡ length (now coefficients) ⌝ }
-    requires { ⌜ start + recordWidth * length (now places) ≤ length (now out) ⌝ }
-    ensures end { λ r. ⌜ r ≡ start + recordWidth * length (now (places .entry)) ⌝ }
-    ensures buffer { λ _. ⌜ now (out .exit) ≡ pasted start (joined (λ i. recordBytes (payout currency (now (places .entry)) (now (coefficients .entry)) i)) (length (now (places .entry)))) (now (out .entry)) ⌝ }
+    requires { ⌜ start + recordWidth reasons * length (now places) ≤ length (now out) ⌝ }
+    ensures end { λ r. ⌜ r ≡ start + recordWidth reasons * length (now (places .entry)) ⌝ }
+    ensures buffer { λ _. ⌜ now (out .exit) ≡ pasted start (joined (λ i. recordBytes reasons (payoutWith currency (now (places .entry)) (now (codes .entry)) (now (coefficients .entry)) i)) (length (now (places .entry)))) (now (out .entry)) ⌝ }
 {
+    let width = width_of(reasons);
     let mut at = start;
     let mut i = 0;
     while i < places.len() {
-        put_record_at(out, at, places[i], currency, coefficients[i]);
-        at += RECORD;
+        let code = code_at(codes, i);
+        put_record_at(out, at, reasons, places[i], currency, coefficients[i], code);
+        at += width;
         i += 1;
     }
     at
@@ -148,19 +171,29 @@ fn put_records(
 
 // The file of a run from the start on, and the place behind it.
 fn put_file(
+    reasons: bool,
     currency: Currency,
     places: &[u16],
+    codes: &[u16],
     coefficients: &[i64],
     out: &mut [u8],
     start: usize,
 ) -> usize
-    requires { ⌜ Writable (now places) (now coefficients) (length (now out)) start ⌝ }
-    ensures end { λ r. ⌜ r ≡ start + fileSize (length (now (places .entry))) ⌝ }
-    ensures buffer { λ _. ⌜ now (out .exit) ≡ pasted start (fileBytes (payout currency (now (places .entry)) (now (coefficients .entry))) (length (now (places .entry)))) (now (out .entry)) ⌝ }
+    requires { ⌜ Writable reasons currency (now places) (now codes) (now coefficients) (length (now out)) start ⌝ }
+    ensures end { λ r. ⌜ r ≡ start + fileSize reasons (length (now (places .entry))) ⌝ }
+    ensures buffer { λ _. ⌜ now (out .exit) ≡ pasted start (fileOf reasons (payoutWith currency (now (places .entry)) (now (codes .entry)) (now (coefficients .entry))) (length (now (places .entry)))) (now (out .entry)) ⌝ }
 {
     let sum = sum_of(coefficients);
-    let at = put_records(currency, places, coefficients, out, start);
-    put_trailer_at(out, at, RECORD as u64, places.len() as u64, sum, 1);
+    let at = put_records(reasons, currency, places, codes, coefficients, out, start);
+    let width = width_of(reasons) as u64;
+    put_trailer_at(
+        out,
+        at,
+        width,
+        places.len() as u64,
+        sum,
+        version_of(reasons) as u64,
+    );
     at + TRAILER
 }
 
@@ -184,7 +217,15 @@ pub fn write(
         },
         Checked::Passed => Written {
             outcome: Checked::Passed,
-            end: put_file(currency, places, coefficients, out, start),
+            end: put_file(
+                false,
+                currency,
+                places,
+                &places[0..0],
+                coefficients,
+                out,
+                start,
+            ),
         },
     }
 }

@@ -2,6 +2,7 @@
 -- record starts there. Two answers that the promise of `open_at` allows are equal, and number n is given exactly when its row says.
 -- Assumes nothing.
 use mathlib.Core.Path.{_≡_, refl, sym, _∙_, ap, subst}
+use mathlib.Core.Bool.{false}
 use mathlib.Core.Logic.{_↔_}
 use mathlib.Core.List.{List}
 use Prim.Native.Nat.{ℕ}
@@ -14,7 +15,7 @@ use Rattle.refusal.proofs.Joined.{same-value, let-pass}
 use Rattle.refusal.proofs.OneToOne.{same-refusal}
 use Rattle.statement.specs.declared.Summary.{Summary}
 use Rattle.statement.specs.Files.{Ends}
-use Rattle.statement.specs.Reading.{readRows, summaryOf, readSaid}
+use Rattle.statement.specs.Reading.{versionRows, readRows, summaryOf, readSaid}
 use Rattle.statement.proofs.ReadBack.{Bytes}
 use Rattle.statement.proofs.Exactly.{file-said, exactly}
 use Rattle.view.specs.declared.Opened.{Opened}
@@ -23,22 +24,22 @@ use Rattle.view.specs.Opening.{meansOpened, openSaid}
 use Rattle.view.proofs.Openings.{open-given}
 
 module _ (bytes : List ℕ) where
-  given-file : Bytes bytes → (first : ℕ) → openSaid bytes ≡ gives first → (count : ℕ) × (sum : ℤ) × Ends bytes first count sum
+  given-file : Bytes bytes → (first : ℕ) → openSaid bytes ≡ gives first → (count : ℕ) × (sum : ℤ) × Ends false bytes first count sum
   unfolding openSaid readSaid
   given-file b first said =
       let s : Summary = summaryOf bytes in
       let through = let-pass (s .first) first (readRows bytes) said in
       let file = exactly bytes b s .0 (passed (gives s) (readRows bytes) through) in
-      (s .count, s .sum, subst (λ (k : ℕ). Ends bytes k (s .count) (s .sum)) (same-value (s .first) first (readRows bytes) said) file)
+      (s .count, s .sum, subst (λ (k : ℕ). Ends false bytes k (s .count) (s .sum)) (same-value (s .first) first (readRows bytes) said) file)
 
-  pub opens-exactly : Bytes bytes → (first : ℕ) → (openSaid bytes ≡ gives first) ↔ ((count : ℕ) × (sum : ℤ) × Ends bytes first count sum)
+  pub opens-exactly : Bytes bytes → (first : ℕ) → (openSaid bytes ≡ gives first) ↔ ((count : ℕ) × (sum : ℤ) × Ends false bytes first count sum)
   opens-exactly b first = (
     given-file b first,
     λ file. sym (open-given bytes (record { first = first; count = file .0; sum = file .1 }) (file-said bytes first (file .0) (file .1) (file .2))),
   )
 
   pub open-exactly-when : (n : ℕ) → ((blamed : ℕ) × (openSaid bytes ≡ refuses n blamed)) ↔ (Holds n (readRows bytes) × NoneBelow n (readRows bytes))
-  unfolding openSaid readRows Given
+  unfolding openSaid readRows versionRows Given
   open-exactly-when n = exactly-when (summaryOf bytes .first) n (readRows bytes) tt
 
 same-opened : (r s : Opened) → meansOpened r ≡ meansOpened s → r ≡ s

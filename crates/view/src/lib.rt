@@ -4,8 +4,8 @@ use refusal::Refusal;
 use statement::Found;
 use statement::Step;
 use statement::check;
+ghost use mathlib.Core.Bool.{false};
 ghost use mathlib.Core.Path.{_≡_};
-ghost use Rattle.statement.specs.Files.{recordWidth};
 ghost use Rattle.statement.specs.Walking.{stepAt, placeAfter};
 ghost use Rattle.view.specs.Opening.{meansOpened, openSaid};
 
@@ -21,7 +21,7 @@ pub enum Opened {
     Refused(Refusal),
 }
 
-// Where a view of these bytes begins, or refusal 14.
+// Where a view of these bytes begins, or refusal 17 or 14.
 pub fn open_at(bytes: &[u8]) -> Opened
     ensures { λ r. ⌜ meansOpened r ≡ openSaid (now (bytes .entry)) ⌝ }
 {
@@ -33,13 +33,13 @@ pub fn open_at(bytes: &[u8]) -> Opened
 
 // The walk on plain bytes and a place.
 fn step_at(bytes: &[u8], at: usize) -> Step
-    ensures { λ r. ⌜ r ≡ stepAt recordWidth (now (bytes .entry)) at ⌝ }
+    ensures { λ r. ⌜ r ≡ stepAt (now (bytes .entry)) at ⌝ }
 {
     statement::step_at(bytes, at)
 }
 
 fn place_after(bytes: &[u8], at: usize) -> usize
-    ensures { λ r. ⌜ r ≡ placeAfter recordWidth (now (bytes .entry)) at ⌝ }
+    ensures { λ r. ⌜ r ≡ placeAfter false (now (bytes .entry)) at ⌝ }
 {
     statement::place_after(bytes, at)
 }
@@ -53,14 +53,14 @@ pub fn new<'a>(bytes: &'a [u8], at: usize) -> View<'a>
 
 // The record that comes next, or the end.
 pub fn next<'a>(view: View<'a>) -> Step
-    ensures { λ s. ⌜ s ≡ stepAt recordWidth (now (view .entry .bytes)) (view .entry .at) ⌝ }
+    ensures { λ s. ⌜ s ≡ stepAt (now (view .entry .bytes)) (view .entry .at) ⌝ }
 {
     step_at(view.bytes, view.at)
 }
 
 // The view behind that record; one that has ended stays where it is.
 pub fn onward<'a>(view: View<'a>) -> View<'a>
-    ensures { λ r. ⌜ (r .bytes ≡ view .entry .bytes) × (r .at ≡ placeAfter recordWidth (now (view .entry .bytes)) (view .entry .at)) ⌝ }
+    ensures { λ r. ⌜ (r .bytes ≡ view .entry .bytes) × (r .at ≡ placeAfter false (now (view .entry .bytes)) (view .entry .at)) ⌝ }
 {
     let at = place_after(view.bytes, view.at);
     View {
@@ -71,7 +71,7 @@ pub fn onward<'a>(view: View<'a>) -> View<'a>
 
 // The record at a place, by a view that is made for it: whoever calls this one lends plain bytes.
 pub fn read_at(bytes: &[u8], at: usize) -> Step
-    ensures { λ r. ⌜ r ≡ stepAt recordWidth (now (bytes .entry)) at ⌝ }
+    ensures { λ r. ⌜ r ≡ stepAt (now (bytes .entry)) at ⌝ }
 {
     next(new(bytes, at))
 }

@@ -43,7 +43,7 @@ use denote.Triple.Table.{entered, cited}
 use denote.Triple.Walked.{says, Stays, stay-none, walkOf, goes-none, Walks, ends-at, walked, walk-meets}
 use denote.Exit.{yes}
 use denote.Triple.Clauses.{ensured, lasts}
-use Rattle.statement.specs.Files.{recordWidth}
+use mathlib.Core.Bool.{false}
 use Rattle.statement.specs.Walking.{placeAfter}
 use Rattle.view.specs.declared.View.{View}
 use Rattle.view.proofs.View as T
@@ -78,7 +78,7 @@ module _ {M : Type 1} (𝓤 : URA M) (H : Heap 𝓤) (A : Atoms 𝓤) (W : Given
   v = sliceVal (d .bytes .ptr) (length (d .bytes .now))
 
   abbrev found : ℕ
-  found = placeAfter recordWidth (now (d .bytes)) (d .at)
+  found = placeAfter false (now (d .bytes)) (d .at)
 
   -- the view behind the record
   abbrev behind : ℕ → View

@@ -1,17 +1,17 @@
 -- What is put to the front of the lent part stands in the buffer from the place on. Assumes nothing.
 use mathlib.Core.Path.{_≡_, refl, sym, _∙_, ap, ap₂}
 use native.Mathlib.Omega.{arith}
+use borrow.Author.Needs.{needs}
 use mathlib.Core.List.{List, _++_}
 use Prim.Native.Nat.{ℕ, _-_}
 use lib.IntN.{ℤ}
+use lib.ListN.{length, take, drop}
 use mir.Syntax.{w64}
 use mir.Val.{toZ, ofZ}
 use mir.ValLaws.{toZ-ofZ}
 use Rattle.statement.specs.Bytes.{pasted}
-use lib.ListN.{length, take, drop}
 use Rattle.statement.specs.Files.{recordBytes}
 use Rattle.statement.proofs.Pasting.{paste-lent}
-use borrow.Author.Needs.{needs}
 use Rattle.statement.proofs.records.put_record_at.Statement.{statement}
 use Rattle.statement.proofs.records.put_record_at.Tie as tie
 
@@ -32,13 +32,14 @@ same-length c = search needs
 
 returns : tie.Need-returns
 returns c =
-    let start = c .before .before .before .before .before in
+    let start = (c .before .before .before .before .before) in
     let a = start .args in
     let old = a .out .now in
     let held = toZ w64 (ofZ w64 (a .coefficient)) in
     ap (λ (ys : List ℕ). take (a .at) old ++ (ys ++ drop (length old - a .at) (drop (a .at) old))) (c .before .before .put-record .ensures)
-    ∙ paste-lent (a .at) (recordBytes (record { place = a .place; currency = a .currency .0; coefficient = held })) old (omega arith)
-    ∙ ap (λ (z : ℤ). pasted (a .at) (recordBytes (record { place = a .place; currency = a .currency .0; coefficient = z })) old) (toZ-ofZ w64 (a .coefficient) (start .fits .coefficient))
+    ∙ paste-lent (a .at) (recordBytes (a .reasons) (record { place = a .place; currency = a .currency .0; coefficient = held; reason = a .reason })) old (omega arith)
+    ∙ ap (λ (z : ℤ). pasted (a .at) (recordBytes (a .reasons) (record { place = a .place; currency = a .currency .0; coefficient = z; reason = a .reason })) old)
+    (toZ-ofZ w64 (a .coefficient) (start .fits .coefficient))
 
 pub put-record-at-spec : {M : Type 1} → statement M
 put-record-at-spec =

@@ -1,8 +1,14 @@
 -- A refused check leaves the buffer as it stood; what passed has room for its file. Assumes nothing.
 use mathlib.Core.Path.{_≡_, refl, sym, _∙_, ap, ap₂}
 use native.Mathlib.Omega.{arith}
-use Rattle.statement.proofs.Answered.{answers-refused, answers-written, writable}
 use borrow.Author.Needs.{needs}
+use mathlib.Core.Bool.{false}
+use mathlib.Core.List.{[]}
+use Prim.Native.Nat.{ℕ, _+_}
+use lib.ListN.{length}
+use Rattle.statement.specs.Files.{fileBytes, fileSize}
+use Rattle.statement.specs.Writing.{writeRows, payout, writeSaid}
+use Rattle.statement.proofs.Answered.{answers-refused, answers-written, writable}
 use Rattle.statement.proofs.writing.write.Statement.{statement}
 use Rattle.statement.proofs.writing.write.Tie as tie
 
@@ -15,26 +21,39 @@ enum-known-refusal c = search needs
 enum-told : tie.Need-enum-told
 enum-told c = search needs
 
+sub-put-file : tie.Need-sub-put-file
+sub-put-file c = search needs
+
+part-put-file-start : tie.Need-part-put-file-start
+part-put-file-start c = search needs
+
+part-put-file-end : tie.Need-part-put-file-end
+part-put-file-end c = search needs
+
 put-file-requires : tie.Need-put-file-requires
 put-file-requires c κs =
-    let a = c .before .before .before .before .before .before .args in
-    writable (a .currency) (a .places .now) (a .coefficients .now) (a .out .now) (a .start) (sym (c .before .before .before .check .ensures) ∙ c .before .enum-told .given .1)
+    let a = c .before .before .before .before .before .before .before .args in
+    writable (a .currency) (a .places .now) (a .coefficients .now) (length (a .out .now)) (a .start) (sym (c .before .before .before .before .check .ensures) ∙ c .before .before .enum-told .given .1)
 
 returns : tie.Need-returns
+unfolding writeSaid
 returns c =
     let a = c .before .before .before .before .before .before .args in
-    answers-refused (a .currency) (a .places .now) (a .coefficients .now) (a .out .now) (a .start) (c .before .refusal .given .0 .0)
+    answers-refused (writeRows (a .currency) (a .places .now) (a .coefficients .now) (length (a .out .now)) (a .start)) (a .start + fileSize false (length (a .places .now))) (a .start)
+    (fileBytes (payout (a .currency) (a .places .now) (a .coefficients .now)) (length (a .places .now))) (a .out .now) (c .before .refusal .given .0 .0)
     (sym (c .before .before .before .check .ensures) ∙ c .before .refusal .given .1)
 
 same-length : tie.Need-same-length
 same-length c = search needs
 
 returns-2 : tie.Need-returns-2
+unfolding writeSaid
 returns-2 c =
-    let a = c .before .before .before .before .before .before .before .before .before .args in
+    let a = c .before .before .before .before .before .before .before .before .before .before .args in
     let put = c .before .before .put-file in
-    answers-written (a .currency) (a .places .now) (a .coefficients .now) (a .out .now) (a .start) (put .result) (put .last .1 .1 .1 .0)
-    (sym (c .before .before .before .before .before .before .check .ensures) ∙ c .before .before .before .before .enum-told .given .1) (put .ensures .0) (put .ensures .1)
+    answers-written (writeRows (a .currency) (a .places .now) (a .coefficients .now) (length (a .out .now)) (a .start)) (a .start + fileSize false (length (a .places .now))) (a .start)
+    (fileBytes (payout (a .currency) (a .places .now) (a .coefficients .now)) (length (a .places .now))) (a .out .now) (put .result) (put .last .1 .1 .1 .1 .1 .0)
+    (sym (c .before .before .before .before .before .before .before .check .ensures) ∙ c .before .before .before .before .before .enum-told .given .1) (put .ensures .0) (put .ensures .1)
 
 pub write-spec : {M : Type 1} → statement M
 write-spec =
@@ -43,6 +62,9 @@ write-spec =
     check-requires
     enum-known-refusal
     enum-told
+    sub-put-file
+    part-put-file-start
+    part-put-file-end
     put-file-requires
     returns
     same-length

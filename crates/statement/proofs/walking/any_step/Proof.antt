@@ -1,0 +1,46 @@
+-- A record that stands before the trailer is read. Assumes nothing.
+use mathlib.Core.Path.{_≡_, refl, sym, _∙_, ap, ap₂}
+use native.Mathlib.Omega.{arith}
+use borrow.Author.Needs.{needs}
+use mathlib.Core.Bool.{Bool, true, false}
+use Prim.Native.Nat.{ℕ, _+_}
+use lib.ListN.{length}
+use Rattle.statement.specs.Files.{recordWidth}
+use Rattle.statement.proofs.Widths.{narrow}
+use Rattle.statement.proofs.Walk.{goes-on}
+use Rattle.statement.specs.Walking.{ended, anyStep}
+use Rattle.statement.proofs.walking.any_step.Statement.{statement}
+use Rattle.statement.proofs.walking.any_step.Tie as tie
+
+-- the test, by the version's width
+told : (c : tie.After-is-ended) → c .is-ended .result ≡ ended (recordWidth (c .before .before .before .args .reasons)) (length (c .before .before .before .args .bytes .now)) (c .before .before .before .args .at)
+told c = c .is-ended .ensures ∙ ap (λ (w : ℕ). ended w (length (c .before .before .before .args .bytes .now)) (c .before .before .before .args .at)) (c .before .width-of .ensures)
+
+width-of-requires : tie.Need-width-of-requires
+width-of-requires c κs = search needs
+
+is-ended-requires : tie.Need-is-ended-requires
+is-ended-requires c κs = omega (arith, c .width-of .ensures, narrow (c .before .before .args .reasons))
+
+returns : tie.Need-returns
+unfolding anyStep
+returns c = rw (sym (told (c .before)) ∙ c .if1 .taken)
+
+reasoned-at-requires : tie.Need-reasoned-at-requires
+reasoned-at-requires c κs =
+    let a = c .before .before .before .before .args in
+    omega (arith, goes-on (recordWidth (a .reasons)) (length (a .bytes .now)) (a .at) (sym (told (c .before)) ∙ c .if1 .left))
+
+returns-2 : tie.Need-returns-2
+unfolding anyStep
+returns-2 c = rw (sym (told (c .before .before)) ∙ c .before .if1 .left, c .reasoned-at .ensures)
+
+pub any-step-spec : {M : Type 1} → statement M
+any-step-spec =
+    tie.close
+    (tie.spec
+    width-of-requires
+    is-ended-requires
+    returns
+    reasoned-at-requires
+    returns-2)
