@@ -1,16 +1,9 @@
-// One line and its answer.
+// One line that needs no book, and its answer.
 use crate::answers::Reply;
 use crate::answers::Style;
 use crate::answers::put_refused_text;
 use crate::answers::put_reply;
 use crate::answers::put_unknown;
-use crate::books::Answered;
-use crate::books::Current;
-use crate::books::card;
-use crate::books::open;
-use crate::books::put_moved;
-use crate::books::put_settled;
-use crate::books::totals_of;
 use crate::calls::by_two;
 use crate::calls::convert_to;
 use crate::calls::interest_of;
@@ -33,11 +26,23 @@ use intake::Given;
 use intake::amount_at;
 use intake::asks_nothing;
 use intake::next_word;
+use intake::read_numbers;
 use lines::put_bytes;
 use spoken::read_words;
 
-// The numbers of a line that are kept: an amount and one weight more than a sharing takes, which is more than any other call takes.
-const NUMBERS: usize = 68;
+// The most numbers of a call that takes no list.
+const FEW: usize = 12;
+
+// The numbers that are kept of a call that takes one: an amount and one weight more than a sharing takes.
+const MANY: usize = 68;
+
+// A line's first word and the place behind it; and whether the line needed no book and is answered, with the place behind its answer.
+pub struct Plain {
+    pub verb: Verb,
+    pub from: usize,
+    pub answered: bool,
+    pub at: usize,
+}
 
 // A call that needs no book, with its numbers, of which there are `count`.
 fn call(verb: Verb, count: usize, signs: &[bool], values: &[u64]) -> Reply {
@@ -83,71 +88,106 @@ fn put_call(
     }
 }
 
-// The same, where the verb may take the current book or leave another one.
-fn ask(
+// The answer to a verb whose words from a place on are not numbers alone.
+fn put_of_words(
+    line: &[u8],
+    from: usize,
     verb: Verb,
-    count: usize,
-    coded: bool,
-    current: Current,
-    signs: &[bool],
-    values: &[u64],
+    signs: &mut [bool],
+    values: &mut [u64],
     out: &mut [u8],
     at: usize,
-) -> Answered {
-    let book = current.book;
-    let own = current.coded;
+) -> usize {
+    let spoken = read_words(line, from, form_of(verb), signs, values);
+    let given = spoken.given;
+    let Given::Numbers(count) = given else {
+        return put_unknown(out, at);
+    };
+    if !takes(verb, count) {
+        return put_unknown(out, at);
+    }
+    if 0 < spoken.refused {
+        return put_refused_text(out, at, spoken.refused);
+    }
+    put_call(verb, count, spoken.coded, signs, values, out, at)
+}
+
+// The answer to a verb and the words from a place on, whose numbers go into two lists: by its words only where they are not numbers alone, which
+// takes longer and answers numbers the same.
+fn put_of(
+    line: &[u8],
+    from: usize,
+    verb: Verb,
+    signs: &mut [bool],
+    values: &mut [u64],
+    out: &mut [u8],
+    at: usize,
+) -> usize {
+    let Given::Numbers(count) = read_numbers(line, from, signs, values) else {
+        return put_of_words(line, from, verb, signs, values, out, at);
+    };
+    if takes(verb, count) {
+        return put_call(verb, count, false, signs, values, out, at);
+    }
+    put_unknown(out, at)
+}
+
+fn put_of_few(line: &[u8], from: usize, verb: Verb, out: &mut [u8], at: usize) -> usize {
+    let mut signs = [false; FEW];
+    let mut values = [0u64; FEW];
+    put_of(line, from, verb, &mut signs, &mut values, out, at)
+}
+
+fn put_of_many(line: &[u8], from: usize, verb: Verb, out: &mut [u8], at: usize) -> usize {
+    let mut signs = [false; MANY];
+    let mut values = [0u64; MANY];
+    put_of(line, from, verb, &mut signs, &mut values, out, at)
+}
+
+// The answer to a verb that needs no book, whose words stand from a place on.
+fn put_asked(line: &[u8], from: usize, verb: Verb, out: &mut [u8], at: usize) -> usize {
     match verb {
-        Verb::Open => open(coded, signs, values, count, out, at),
-        Verb::Post => put_moved(out, at, own, book.post(amount_at(signs, values, 0))),
-        Verb::Refund => put_moved(out, at, own, book.refund(amount_at(signs, values, 0))),
-        Verb::Totals => put_moved(out, at, own, totals_of(book)),
-        Verb::Card => card(current, signs, values, count, out, at),
-        Verb::Settled => Answered {
-            at: put_settled(current, out, at),
-            current,
-        },
-        _ => Answered {
-            at: put_call(verb, count, coded, signs, values, out, at),
-            current,
-        },
+        Verb::Read => put_read(line, from, out, at),
+        Verb::Share | Verb::Vouchers => put_of_many(line, from, verb, out, at),
+        _ => put_of_few(line, from, verb, out, at),
     }
 }
 
-// The answer to a line, without its newline.
-pub(crate) fn answer(line: &[u8], current: Current, out: &mut [u8], at: usize) -> Answered {
+// Whether a verb takes the current book or leaves another one.
+fn is_booked(verb: Verb) -> bool {
+    match verb {
+        Verb::Open | Verb::Post | Verb::Refund => true,
+        Verb::Totals | Verb::Card | Verb::Settled => true,
+        _ => false,
+    }
+}
+
+// The answer to a line that needs no book, without its newline.
+pub(crate) fn put_plain(line: &[u8], out: &mut [u8], at: usize) -> Plain {
     if asks_nothing(line) {
-        return Answered {
+        return Plain {
+            verb: Verb::Unknown,
+            from: 0,
+            answered: true,
             at: put_bytes(out, at, line),
-            current,
         };
     }
     let word = next_word(line, 0);
     let start = word.start;
-    let end = word.end;
-    let verb = verb_of(&line[start..end]);
-    if let Verb::Read = verb {
-        return Answered {
-            at: put_read(line, end, out, at),
-            current,
+    let from = word.end;
+    let verb = verb_of(&line[start..from]);
+    if is_booked(verb) {
+        return Plain {
+            verb,
+            from,
+            answered: false,
+            at,
         };
     }
-    let mut signs = [false; NUMBERS];
-    let mut values = [0u64; NUMBERS];
-    let spoken = read_words(line, end, form_of(verb), &mut signs, &mut values);
-    let given = spoken.given;
-    if let Given::Numbers(count) = given {
-        if takes(verb, count) {
-            if 0 < spoken.refused {
-                return Answered {
-                    at: put_refused_text(out, at, spoken.refused),
-                    current,
-                };
-            }
-            return ask(verb, count, spoken.coded, current, &signs, &values, out, at);
-        }
-    }
-    Answered {
-        at: put_unknown(out, at),
-        current,
+    Plain {
+        verb,
+        from,
+        answered: true,
+        at: put_asked(line, from, verb, out, at),
     }
 }

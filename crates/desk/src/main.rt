@@ -1,6 +1,7 @@
 // The library at a prompt: one answer line for each line of standard input, or of the file that the one argument names.
 mod answers;
 mod asking;
+mod booked;
 mod books;
 mod calls;
 mod columns;

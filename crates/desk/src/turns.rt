@@ -1,6 +1,7 @@
 // Line by line from a file to standard output: the bytes that are held and the answers that wait have a buffer each.
 use crate::answers::put_unknown;
-use crate::asking::answer;
+use crate::asking::put_plain;
+use crate::booked::answer;
 use crate::books::Current;
 use crate::books::no_book;
 use console::FAILED;
@@ -74,8 +75,67 @@ fn close(mut desk: Desk, out: &[u8]) -> Desk {
     desk
 }
 
+// Where the lines that need no book stand, and whether another such line may follow.
+pub struct Standing {
+    pub feed: Feed,
+    pub waiting: Waiting,
+    pub going: bool,
+}
+
+// With one more answer behind those that wait, if what comes next is a line that needs no book; else nothing is read.
+fn plain_line(text: &[u8], standing: Standing, out: &mut [u8]) -> Standing {
+    let mut feed = standing.feed;
+    let held = standing.waiting;
+    let cut = next_cut(text, feed);
+    let start = cut.start;
+    let end = cut.end;
+    let next = cut.next;
+    let found = cut.found;
+    let mut waiting = make_room(out, held, ANSWER);
+    let Found::Line = found else {
+        return Standing {
+            feed,
+            waiting,
+            going: false,
+        };
+    };
+    let plain = put_plain(&text[start..end], out, waiting.at);
+    if !plain.answered {
+        return Standing {
+            feed,
+            waiting,
+            going: false,
+        };
+    }
+    feed.intake = next;
+    waiting.at = put_bytes(out, plain.at, b"\n");
+    Standing {
+        feed,
+        waiting,
+        going: !waiting.failed,
+    }
+}
+
+// The lines that need no book, one after another up to the first thing that is none: the current book is not moved for them.
+fn plain_lines(text: &[u8], feed: Feed, waiting: Waiting, out: &mut [u8]) -> Standing {
+    let mut standing = Standing {
+        feed,
+        waiting,
+        going: true,
+    };
+    let mut turns = u64::MAX;
+    while standing.going {
+        if turns == 0 {
+            return standing;
+        }
+        turns -= 1;
+        standing = plain_line(text, standing, out);
+    }
+    standing
+}
+
 // The next thing to do: a line is answered, more bytes are read, or the end is there.
-fn turn(fd: i32, mut desk: Desk, text: &mut [u8], out: &mut [u8]) -> Desk {
+fn next_turn(fd: i32, mut desk: Desk, text: &mut [u8], out: &mut [u8]) -> Desk {
     let waiting = desk.waiting;
     let mut feed = desk.feed;
     let cut = next_cut(text, feed);
@@ -92,6 +152,18 @@ fn turn(fd: i32, mut desk: Desk, text: &mut [u8], out: &mut [u8]) -> Desk {
         Found::More => read_on(fd, desk, text, out),
         Found::Nothing => close(desk, out),
     }
+}
+
+// The lines that need no book, and the next thing to do.
+fn turn(fd: i32, mut desk: Desk, text: &mut [u8], out: &mut [u8]) -> Desk {
+    let feed = desk.feed;
+    let waiting = desk.waiting;
+    let standing = plain_lines(text, feed, waiting, out);
+    let read = standing.feed;
+    let held = standing.waiting;
+    desk.feed = read;
+    desk.waiting = held;
+    next_turn(fd, desk, text, out)
 }
 
 fn goes_on(desk: Desk) -> bool {
