@@ -9,28 +9,10 @@ use amount::Amount;
 use book::Book;
 use book::Moved;
 use bulk::run;
-use console::Verb;
-use console::form_of;
-use currency::Currency;
-use intake::next_word;
-use intake::read_weights;
-use intake::u8_at;
-use refusal::Checked;
-use spoken::read_words;
+use quarter::Opening;
+use quarter::begin;
+use quarter::no_book;
 ghost use Prim.Native.Nat.{_≤_};
-
-// One weight more than a book takes: too many are refused by the library.
-const WEIGHTS: usize = Book::PARTNERS + 1;
-// The numbers of an opening: a currency and the weights.
-const NUMBERS: usize = WEIGHTS + 1;
-
-// How the book was opened: not at all, by an `open` that is not understood, with a refusal's number, or as asked.
-pub enum Opening {
-    Nothing,
-    Unknown,
-    Refused(u8),
-    Accepted,
-}
 
 pub struct Account {
     pub opening: Opening,
@@ -43,17 +25,9 @@ pub struct Account {
 
 // The book whose every field is 0, before any opening and after one that is not understood.
 pub(crate) fn no_account(opening: Opening) -> Account {
-    let book = Book {
-        currency: Currency(0),
-        count: 0,
-        weights: [0; Book::PARTNERS],
-        net: 0,
-        card: 0,
-        settled: [0; Book::PARTNERS],
-    };
     Account {
         opening,
-        book,
+        book: no_book(),
         coded: false,
         tally: no_calls(),
         cards: no_cards(),
@@ -62,28 +36,13 @@ pub(crate) fn no_account(opening: Opening) -> Account {
 
 // The opening that a line asks for.
 pub(crate) fn open(line: &[u8]) -> Account {
-    let mut signs = [false; NUMBERS];
-    let mut values = [0u64; NUMBERS];
-    let mut weights = [0u32; WEIGHTS];
-    let word = next_word(line, 0);
-    let end = word.end;
-    let spoken = read_words(line, end, form_of(Verb::Open), &mut signs, &mut values);
-    let given = spoken.given;
-    let intake::Given::Numbers(count) = given else {
-        return no_account(Opening::Unknown);
-    };
-    let partners = read_weights(&signs, &values, 1, count, &mut weights);
-    let opened = Book::open(Currency(u8_at(&signs, &values, 0)), &weights[0..partners]);
-    let book = opened.book;
-    let outcome = opened.outcome;
-    let opening = match outcome {
-        Checked::Passed => Opening::Accepted,
-        Checked::Refused(refusal) => Opening::Refused(refusal.number()),
-    };
+    let begun = begin(line);
+    let opening = begun.opening;
+    let book = begun.book;
     Account {
         opening,
         book,
-        coded: spoken.coded,
+        coded: begun.coded,
         tally: no_calls(),
         cards: no_cards(),
     }

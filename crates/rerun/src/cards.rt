@@ -5,17 +5,10 @@ use crate::partners::partner_of;
 use crate::tally::count_call;
 use crate::tally::no_calls;
 use book::Book;
-use book::Moved;
-use intake::Given;
-use intake::next_word;
-use intake::read_numbers;
-use intake::read_weights;
+use quarter::card_of;
 use refusal::Checked;
 use std::num::wrapping_add_u64;
 use whole::magnitude;
-
-// One weight more than a book takes: too many are refused by the library.
-const WEIGHTS: usize = Book::PARTNERS + 1;
 
 // How many cards, their net totals together, and each partner's shares rounded down and up, added over the cards.
 pub struct Cards {
@@ -70,19 +63,6 @@ pub(crate) fn all_cards(account: Account, totals: [u64; Book::PARTNERS]) -> Card
         least,
         most,
     }
-}
-
-// The new card that a line asks for, of which the numbers were read before.
-fn card_of(book: Book, line: &[u8]) -> Moved {
-    let mut signs = [false; WEIGHTS];
-    let mut values = [0u64; WEIGHTS];
-    let mut weights = [0u32; WEIGHTS];
-    let word = next_word(line, 0);
-    let Given::Numbers(count) = read_numbers(line, word.end, &mut signs, &mut values) else {
-        return book.card(&weights[0..0]);
-    };
-    let partners = read_weights(&signs, &values, 0, count, &mut weights);
-    book.card(&weights[0..partners])
 }
 
 // With a new card, on which nothing is counted yet; a refused one is counted in the part where it stands.

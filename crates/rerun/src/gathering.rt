@@ -1,15 +1,12 @@
 // Calls gathered for a run, line by line from the bytes that are held.
-use crate::asking::Asked;
-use crate::asking::asked_of;
 use amount::Amount;
 use console::Feed;
 use console::first_feed;
-use console::next_cut;
-use intake::Cut;
-use intake::Found;
 use intake::Lead;
-use intake::is_open;
-use intake::lead_of;
+use quarter::Asked;
+use quarter::Next;
+use quarter::Reading;
+use quarter::read_line;
 use std::num::wrapping_add_u64;
 
 // The calls of a run.
@@ -79,10 +76,8 @@ pub(crate) fn first_gathering() -> Gathering {
 }
 
 // With a line done that asks for something: it is met, or counted where it is not understood.
-fn pass_line(at: Gathering, cut: Cut, asked: Asked) -> Gathering {
-    let mut feed = at.feed;
-    let next = cut.next;
-    feed.intake = next;
+fn pass_line(at: Gathering, read: Reading, asked: Asked) -> Gathering {
+    let feed = read.feed;
     let lines = wrapping_add_u64(at.lines, 1);
     let mut unknown = at.unknown;
     let mut first = at.first;
@@ -107,18 +102,17 @@ fn pass_line(at: Gathering, cut: Cut, asked: Asked) -> Gathering {
         unknown,
         first,
         lead: Lead::Spaces,
-        start: cut.start,
-        end: cut.end,
-        unended: cut.unended,
+        start: read.start,
+        end: read.end,
+        unended: read.unended,
         met,
     }
 }
 
 // With no line done: more bytes are to come, or none.
-fn stop_at(at: Gathering, cut: Cut, lead: Lead, met: Met) -> Gathering {
-    let mut feed = at.feed;
-    let next = cut.next;
-    feed.intake = next;
+fn stop_at(at: Gathering, read: Reading, met: Met) -> Gathering {
+    let feed = read.feed;
+    let lead = read.lead;
     Gathering {
         feed,
         count: at.count,
@@ -133,32 +127,16 @@ fn stop_at(at: Gathering, cut: Cut, lead: Lead, met: Met) -> Gathering {
     }
 }
 
-// A line of over 4,000 bytes is not understood, whatever it holds; but its first word may be `open` or `card`.
-fn asked_by_long(lead: Lead) -> Asked {
-    if is_open(lead) {
-        Asked::Astray
-    } else {
-        Asked::Unknown
-    }
-}
-
-// What the bytes held begin with. Bytes of a line that is too long are looked at before they are dropped.
+// What the bytes held begin with.
 fn read_next(text: &[u8], at: Gathering) -> Gathering {
     let feed = at.feed;
     let lead = at.lead;
-    let cut = next_cut(text, feed);
-    let start = cut.start;
-    let end = cut.end;
-    let found = cut.found;
-    match found {
-        Found::Line => pass_line(at, cut, asked_of(&text[start..end])),
-        Found::Long => pass_line(at, cut, asked_by_long(lead_of(lead, &text[start..end]))),
-        Found::More => if cut.next.skipping {
-            stop_at(at, cut, lead_of(lead, &text[start..end]), Met::More)
-        } else {
-            stop_at(at, cut, lead, Met::More)
-        },
-        Found::Nothing => stop_at(at, cut, lead, Met::End),
+    let read = read_line(text, feed, lead);
+    let next = read.next;
+    match next {
+        Next::Line(asked) => pass_line(at, read, asked),
+        Next::More => stop_at(at, read, Met::More),
+        Next::End => stop_at(at, read, Met::End),
     }
 }
 

@@ -1,6 +1,5 @@
 // A quarter again: the postings and refunds of standard input, or of the file that the one argument names, and a report on each book.
 mod accounts;
-mod asking;
 mod cards;
 mod checks;
 mod gathering;

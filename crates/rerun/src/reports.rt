@@ -1,6 +1,5 @@
 // The report on a book, or on one of its cards.
 use crate::accounts::Account;
-use crate::accounts::Opening;
 use crate::checks::Check;
 use crate::checks::check_of;
 use crate::gathering::Gathering;
@@ -14,6 +13,7 @@ use crate::tally::count_from;
 use book::Book;
 use console::put_named;
 use lines::put_bytes;
+use quarter::Opening;
 use whole::magnitude;
 
 // Where a report ends, and what it says: a check that failed, a line that was refused or not understood, an opening too.

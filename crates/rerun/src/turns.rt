@@ -1,6 +1,5 @@
 // From a file to the reports on standard output, stretch by stretch: calls are gathered and run, and what a stretch ends at is dealt with.
 use crate::accounts::Account;
-use crate::accounts::Opening;
 use crate::accounts::call_now;
 use crate::accounts::no_account;
 use crate::accounts::open;
@@ -28,6 +27,7 @@ use console::write_out;
 use currency::line_of;
 use libc::STDERR_FILENO;
 use lines::put_bytes;
+use quarter::Opening;
 use std::num::wrapping_add_u64;
 
 // A payout to each partner for each call of a run.
