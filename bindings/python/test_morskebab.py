@@ -1,9 +1,11 @@
 """Document 01's cases ("Two sides of each line") through the Python module, and what is Python's own. Prints how many checks passed."""
 import doctest
+import mmap
 import multiprocessing
 import pathlib
 import pickle
 import re
+import tempfile
 from ctypes import c_bool, c_int64, c_uint8, c_uint32, c_uint64
 from decimal import Decimal
 
@@ -435,9 +437,17 @@ def views():
     view = View(held)
     named(BufferError, "", held.clear)
     same(list(view), [Payout(2, EUR, -1250)])
-    named(TypeError, "data", lambda: View("1234"))
+    del view
+    held.clear()
+    for data in ("1234", [1, 2], None, 5):
+        named(TypeError, "data", lambda: View(data))
     same([*View(memoryview(bytes(2) + ONE)[2:])], [Payout(2, EUR, -1250)])
     same([*View(memoryview(bytearray(ONE[::-1]))[::-1])], [Payout(2, EUR, -1250)])
+    # a file that is mapped is neither read nor copied whole, and may be written so
+    with tempfile.TemporaryFile() as file:
+        file.truncate(47)
+        with mmap.mmap(file.fileno(), 47) as mapped:
+            same((write_statement(EUR, [2], [-1250], mapped, 7), bytes(mapped)[7:], [*View(mapped)]), (47, ONE, [Payout(2, EUR, -1250)]))
 
 
 def negated(coefficient):

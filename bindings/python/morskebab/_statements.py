@@ -14,10 +14,14 @@ from __future__ import annotations
 
 from collections.abc import Sequence
 from ctypes import c_int64, c_uint16
-from typing import NamedTuple
+from mmap import mmap
+from typing import NamedTuple, Union
 
 from ._c import library
-from ._values import accepted, as_list, as_memory, as_room, is_a, whole
+from ._memory import Memory
+from ._values import accepted, as_list, whole
+
+Bytes = Union[bytes, bytearray, memoryview, mmap]
 
 
 class Statement(NamedTuple):
@@ -36,19 +40,20 @@ class Payout(NamedTuple):
     coefficient: int
 
 
-def write_statement(currency: int, places: Sequence[int], coefficients: Sequence[int], out: bytearray, start: int = 0) -> int:
+def write_statement(currency: int, places: Sequence[int], coefficients: Sequence[int], out: bytearray | memoryview | mmap, start: int = 0) -> int:
     """A statement file in `out` from the byte `start` on, a record for each payout and a trailer; the file's end. No other byte changes, and none
     where the call is refused: refusals 3, 4, 9, 11."""
     partners, count = as_list(c_uint16, "places", places)
     payouts, others = as_list(c_int64, "coefficients", coefficients)
-    lent, room = as_room(is_a(bytearray, "out", out))
+    lent = Memory("out", out, written=True)
     numbers = whole(c_int64, "currency", currency), whole(c_int64, "start", start)
-    return accepted(library.mkb_write_statement(numbers[0], partners, count, payouts, others, lent, room, numbers[1])).end
+    return accepted(library.mkb_write_statement(numbers[0], partners, count, payouts, others, lent.first, lent.length, numbers[1])).end
 
 
-def check_statement(data: bytes | bytearray | memoryview) -> Statement:
+def check_statement(data: Bytes) -> Statement:
     """The statement file that the bytes end in: refusal 14 where they end in none."""
-    answer = accepted(library.mkb_check_statement(*as_memory("data", data)))
+    lent = Memory("data", data)
+    answer = accepted(library.mkb_check_statement(lent.first, lent.length))
     return Statement(answer.first, answer.count, answer.sum)
 
 
@@ -56,15 +61,15 @@ class View:
     """An iterator over the payouts of the statement file that the bytes end in, in file order and each once: refusal 14 where they end in none. It
     keeps hold of the bytes, which nobody should change meanwhile, and of its place among them."""
 
-    def __init__(self, data: bytes | bytearray | memoryview) -> None:
-        self._bytes, self._length = as_memory("data", data)
-        self._next = accepted(library.mkb_first_payout(self._bytes, self._length)).first
+    def __init__(self, data: Bytes) -> None:
+        self._lent = Memory("data", data)
+        self._next = accepted(library.mkb_first_payout(self._lent.first, self._lent.length)).first
 
     def __iter__(self) -> View:
         return self
 
     def __next__(self) -> Payout:
-        step = library.mkb_payout_at(self._bytes, self._length, self._next)
+        step = library.mkb_payout_at(self._lent.first, self._lent.length, self._next)
         self._next = step.next
         if step.ended:
             raise StopIteration

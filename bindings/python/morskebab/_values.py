@@ -3,7 +3,7 @@ from __future__ import annotations
 
 import operator
 from collections.abc import Mapping
-from ctypes import POINTER, Array, c_bool, c_char_p, c_uint8, cast, sizeof
+from ctypes import Array, c_bool, c_uint8, sizeof
 from typing import Any
 
 REASONS = {
@@ -74,24 +74,6 @@ def as_bytes(field: str, text: Any) -> tuple[Array, int]:
     """A str's characters as bytes, and their number; one that ASCII hasn't becomes several bytes, none of them a digit."""
     held = is_a(str, field, text).encode("utf-8", "surrogatepass")
     return (c_uint8 * (len(held) + 1))(*held), len(held)
-
-
-def as_memory(field: str, data: Any) -> tuple[Any, int]:
-    """Where bytes to read stand, and their number; not copied but for a view of memory that may not be written. What it answers keeps hold of them."""
-    if isinstance(data, memoryview) and (data.readonly or not data.c_contiguous):
-        data = bytes(data)
-    if isinstance(data, bytes):
-        return cast(c_char_p(data), POINTER(c_uint8)), len(data)
-    if not isinstance(data, (bytearray, memoryview)):
-        raise TypeError(f"{field} must be bytes, not {type(data).__name__}")
-    return as_room(data)
-
-
-def as_room(data: bytearray | memoryview) -> tuple[Any, int]:
-    """Memory to write, and its number of bytes."""
-    room = memoryview(data).nbytes
-    # an empty one has no address
-    return (c_uint8 * room).from_buffer(data) if room else (c_uint8 * 1)(), room
 
 
 def is_a(kind: type, field: str, value: Any) -> Any:
