@@ -5,6 +5,8 @@ import multiprocessing
 import pathlib
 import pickle
 import re
+import subprocess
+import sys
 import tempfile
 from ctypes import c_bool, c_int64, c_uint8, c_uint32, c_uint64
 from decimal import Decimal
@@ -450,6 +452,28 @@ def views():
             same((write_statement(EUR, [2], [-1250], mapped, 7), bytes(mapped)[7:], [*View(mapped)]), (47, ONE, [Payout(2, EUR, -1250)]))
 
 
+def a_partner_s_statement():
+    """The example, over three statements that stand one behind the other: a book's, an empty one and one in another currency."""
+    book, records = Book.open(EUR, [5, 3, 2]), []
+    for refund, cents in ((False, 7), (False, 1293), (True, 3)):
+        book, moved = book.refund(euros(cents)) if refund else book.post(euros(cents))
+        records += [(place, -units if refund else units) for place, units in enumerate(moved) if units]
+    data, end = bytearray(1000), 0
+    for currency, part in ((EUR, records), (EUR, []), (ITL, [(1, 5000), (2, 7)])):
+        end = write_statement(currency, [place for place, _ in part], [units for _, units in part], data, end)
+    example = pathlib.Path(__file__).parent / "examples" / "partner.py"
+    with tempfile.NamedTemporaryFile() as file:
+        def said(content, place):
+            pathlib.Path(file.name).write_bytes(content)
+            return subprocess.run([sys.executable, example, file.name, str(place)], capture_output=True, text=True)
+
+        whole_file = bytes(data[:end])
+        same(said(whole_file, 1).stdout, "EUR 0.02\nEUR 3.88\nEUR -0.01\nITL 5000\npartner 1: 4 payouts, EUR 3.89, ITL 5000\n")
+        same(book.running_totals()[1], 389)
+        same((said(whole_file, 15).stdout, said(b"", 0).stdout), ("partner 15: 0 payouts, nothing\n", "partner 0: 0 payouts, nothing\n"))
+        same("refusal 14" in said(b"\0" + whole_file, 1).stderr, True)
+
+
 def negated(coefficient):
     return -euros(coefficient)
 
@@ -471,7 +495,7 @@ def versions():
 
 
 def main():
-    for part in (modes, amounts, past_limits, texts_and_decimals, parsed, fields, lines, euro_steps, days, tables, prices, rows_of_doubles, shares, handed_out, books, cards, broken_books, statements, views, processes, versions):
+    for part in (modes, amounts, past_limits, texts_and_decimals, parsed, fields, lines, euro_steps, days, tables, prices, rows_of_doubles, shares, handed_out, books, cards, broken_books, statements, views, a_partner_s_statement, processes, versions):
         part()
     tried = 0
     for module in (morskebab, _statements):
