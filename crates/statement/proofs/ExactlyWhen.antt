@@ -11,8 +11,8 @@ use Rattle.refusal.specs.Rows.{refuses, Holds}
 use Rattle.refusal.proofs.ExactlyWhen.{Given, NoneBelow, exactly-when}
 use Rattle.currency.specs.declared.Currency.{Currency}
 use Rattle.statement.specs.Files.{fileSize}
-use Rattle.statement.specs.Writing.{writeRows, writeSaid}
-use Rattle.statement.specs.Reading.{versionRows, readRows, summaryOf, readSaid}
+use Rattle.statement.specs.Writing.{writeRows, reasonsRows, writeSaid, reasonsSaid}
+use Rattle.statement.specs.Reading.{versionRows, readRows, summaryIn, summaryOf, readSaid, reasonsIn, anyRows, anySaid}
 
 pub write-exactly-when : (currency : Currency) (places : List ℕ) (coefficients : List ℤ) (room start n : ℕ)
     → ((blamed : ℕ) × (writeSaid currency places coefficients room start ≡ refuses n blamed))
@@ -25,3 +25,15 @@ pub check-exactly-when : (bytes : List ℕ) (n : ℕ)
     → ((blamed : ℕ) × (readSaid bytes ≡ refuses n blamed)) ↔ (Holds n (readRows bytes) × NoneBelow n (readRows bytes))
 unfolding readSaid readRows versionRows Given
 check-exactly-when bytes n = exactly-when (summaryOf bytes) n (readRows bytes) tt
+
+pub write-reasons-exactly-when : (currency : Currency) (places reasons : List ℕ) (coefficients : List ℤ) (room start n : ℕ)
+    → ((blamed : ℕ) × (reasonsSaid currency places reasons coefficients room start ≡ refuses n blamed))
+    ↔ (Holds n (reasonsRows currency places reasons coefficients room start) × NoneBelow n (reasonsRows currency places reasons coefficients room start))
+unfolding reasonsSaid reasonsRows Given
+write-reasons-exactly-when currency places reasons coefficients room start n =
+    exactly-when (start + fileSize true (length places)) n (reasonsRows currency places reasons coefficients room start) tt
+
+pub check-any-exactly-when : (bytes : List ℕ) (n : ℕ)
+    → ((blamed : ℕ) × (anySaid bytes ≡ refuses n blamed)) ↔ (Holds n (anyRows bytes) × NoneBelow n (anyRows bytes))
+unfolding anySaid anyRows versionRows Given
+check-any-exactly-when bytes n = exactly-when (summaryIn (reasonsIn bytes) bytes) n (anyRows bytes) tt

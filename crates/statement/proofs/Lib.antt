@@ -15,8 +15,9 @@ mod Answered
 mod Held
 mod Ending
 pub mod Exactly
+pub mod Both
+pub mod Handed
 pub mod ReadWritten
 pub mod Unique
 pub mod ExactlyWhen
 pub mod Lines
-pub mod Handed

@@ -13,13 +13,17 @@ use Rattle.refusal.proofs.Joined.{same-value, let-pass}
 use Rattle.currency.specs.declared.Currency.{Currency}
 use Rattle.statement.specs.Bytes.{pasted}
 use Rattle.statement.specs.Files.{versionOf, recordWidth, recordBytes, trailerBytes, joined, totalOf, fileOf, fileBytes, fileSize, Ends}
-use Rattle.statement.specs.Writing.{writeRows, payoutWith, payout, writeSaid, bufferAfter}
-use Rattle.statement.specs.Reading.{readSaid}
+use Rattle.statement.specs.Writing.{writeRows, reasonsRows, payoutWith, payout, writeSaid, reasonsSaid, bufferAfter}
+use Rattle.statement.specs.Reading.{readSaid, anySaid}
+use Rattle.statement.specs.declared.AnyStep.the-variants.{Next as AnyNext}
+use Rattle.statement.specs.Walking.{anyStep, walked}
 use Rattle.statement.specs.Parts.{Writable}
 use Rattle.statement.proofs.Behind.{length-joined}
 use Rattle.statement.proofs.Run.{length-record, length-trailer}
-use Rattle.statement.proofs.Answered.{writable}
+use Rattle.statement.proofs.Answered.{writable, writable-reasons}
 use Rattle.statement.proofs.Exactly.{file-said}
+use Rattle.statement.proofs.Both.{any-file-said}
+use Rattle.statement.proofs.Handed.{reasonedOf, handed-out}
 
 module _ (at : ℕ) (new old : List ℕ) (h : at + length new ≤ length old) where
   long : length (take at old ++ new) ≡ at + length new
@@ -97,6 +101,12 @@ module _ (reasons : Bool) (currency : Currency) (places codes : List ℕ) (coeff
         summed = refl;
       }
 
+  -- and a walk over it hands out the payouts as they were given, with their codes, in order
+  pub records-back : (i : ℕ) → i < length places
+      → anyStep reasons (take end after) (walked reasons (take end after) start i) ≡ AnyNext (reasonedOf (payoutWith currency places codes coefficients i))
+  unfolding written-ends
+  records-back i h = handed-out reasons (take end after) start (length places) (totalOf (λ k. getD coefficients k (pos 0)) (length places)) written-ends i h
+
 -- Ask 3's call
 module _ (currency : Currency) (places : List ℕ) (coefficients : List ℤ) (out : List ℕ) (start ended : ℕ)
     (said : writeSaid currency places coefficients (length out) start ≡ gives ended) where
@@ -117,3 +127,33 @@ module _ (currency : Currency) (places : List ℕ) (coefficients : List ℤ) (ou
       ap (λ (k : ℕ). readSaid (take k (pasted start (fileBytes (payout currency places coefficients) (length places)) out))) (sym end-is)
       ∙ file-said _ start (length places) (totalOf (λ i. getD coefficients i (pos 0)) (length places))
       (written-ends false currency places [] coefficients out start room-left)
+
+-- Ask 13's call
+module _ (currency : Currency) (places reasons : List ℕ) (coefficients : List ℤ) (out : List ℕ) (start ended : ℕ)
+    (said : reasonsSaid currency places reasons coefficients (length out) start ≡ gives ended) where
+  abbrev pub reasonsFile : List ℕ
+  reasonsFile = fileOf true (payoutWith currency places reasons coefficients) (length places)
+
+  -- the bytes up to the end, afterwards
+  abbrev pub written : List ℕ
+  written = take ended (bufferAfter (gives ended) start (fileOf true (payoutWith currency places reasons coefficients) (length places)) out)
+
+  pub reasons-room : Writable true currency places reasons coefficients (length out) start
+  unfolding reasonsSaid
+  reasons-room =
+      writable-reasons currency places reasons coefficients (length out) start
+      (let-pass (start + fileSize true (length places)) ended (reasonsRows currency places reasons coefficients (length out) start) said)
+
+  pub reasons-end-is : end true currency places reasons coefficients out start reasons-room ≡ ended
+  unfolding reasonsSaid
+  reasons-end-is = same-value (start + fileSize true (length places)) ended (reasonsRows currency places reasons coefficients (length out) start) said
+
+  pub reasons-end : Ends true written start (length places) (totalOf (λ i. getD coefficients i (pos 0)) (length places))
+  unfolding bufferAfter
+  reasons-end =
+      subst (λ (k : ℕ). Ends true (take k (pasted start reasonsFile out)) start (length places) (totalOf (λ i. getD coefficients i (pos 0)) (length places))) reasons-end-is
+      (written-ends true currency places reasons coefficients out start reasons-room)
+
+  -- what was written is read back, with version, start, count and sum
+  pub read-reasons : anySaid written ≡ gives (record { version = 2; first = start; count = length places; sum = totalOf (λ i. getD coefficients i (pos 0)) (length places) })
+  read-reasons = any-file-said written true start (length places) (totalOf (λ i. getD coefficients i (pos 0)) (length places)) reasons-end

@@ -20,6 +20,8 @@ use Rattle.statement.specs.declared.Summary.{Summary}
 use Rattle.statement.specs.declared.SummaryOfAny.{SummaryOfAny}
 use Rattle.statement.specs.declared.Found.{Found}
 use Rattle.statement.specs.declared.Found.the-variants.{Value, Refused}
+use Rattle.statement.specs.declared.FoundAny.{FoundAny}
+use Rattle.statement.specs.declared.FoundAny.the-variants.{Value as ValueOfAny, Refused as RefusedAny}
 use Rattle.statement.specs.Bytes.{numberAt, wordOf, fromWord}
 use Rattle.statement.specs.Files.{versionOf, recordWidth, codeBytes, codeZeros, trailerWidth, mostRecords, lastPlace, lastReason, totalOf}
 use Rattle.statement.specs.Writing.{anyOf}
@@ -131,3 +133,17 @@ summaryOf bytes = plainly (summaryIn false bytes)
 
 unfoldable pub readSaid : List ℕ → Said Summary
 readSaid bytes = firstRow (readRows bytes) (gives (summaryOf bytes))
+
+-- "The new reader takes both versions": by the rows of version 2 where the last bytes hold it, else by those of version 1, which refuse all others
+abbrev pub reasonsIn : List ℕ → Bool
+reasonsIn bytes = eqb (trailerIn bytes .version) (versionOf true)
+
+unfoldable pub anyRows : List ℕ → List Row
+anyRows bytes = versionRows (reasonsIn bytes) bytes
+
+unfoldable pub anySaid : List ℕ → Said SummaryOfAny
+anySaid bytes = firstRow (anyRows bytes) (gives (summaryIn (reasonsIn bytes) bytes))
+
+abbrev pub meansFoundAny : FoundAny → Said SummaryOfAny
+meansFoundAny (ValueOfAny s) = gives s
+meansFoundAny (RefusedAny r) = refuses (numberOf r) (blamedOf r)

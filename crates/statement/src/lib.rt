@@ -8,6 +8,7 @@ mod looking;
 mod numbers;
 mod reading;
 mod records;
+mod runs;
 mod walking;
 mod writing;
 
@@ -91,6 +92,11 @@ pub enum Found {
     Refused(Refusal),
 }
 
+pub enum FoundAny {
+    Value(SummaryOfAny),
+    Refused(Refusal),
+}
+
 // The bytes of a version's records.
 fn width_of(reasons: bool) -> usize
     ensures { λ r. ⌜ r ≡ recordWidth reasons ⌝ }
@@ -106,6 +112,8 @@ fn version_of(reasons: bool) -> u16
 }
 
 pub use reading::check;
+pub use reading::check_any;
 pub use walking::place_after;
 pub use walking::step_at;
 pub use writing::write;
+pub use writing::write_reasons;

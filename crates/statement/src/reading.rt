@@ -1,5 +1,6 @@
 // Whether bytes end in a statement file, and what it says of itself.
 use crate::Found;
+use crate::FoundAny;
 use crate::RECORDS;
 use crate::Summary;
 use crate::SummaryOfAny;
@@ -18,7 +19,7 @@ ghost use lib.ListN.{length};
 ghost use Rattle.refusal.specs.declared.Checked.the-variants.{Passed};
 ghost use Rattle.refusal.specs.Rows.{checkOf};
 ghost use Rattle.statement.specs.Files.{trailerWidth};
-ghost use Rattle.statement.specs.Reading.{meansFound, trailerAt, trailerRows, fileRows, versionRows, newerAt, readRows, summaryIn, plainly, readSaid};
+ghost use Rattle.statement.specs.Reading.{meansFound, trailerAt, trailerRows, fileRows, versionRows, newerAt, readRows, summaryIn, plainly, readSaid, meansFoundAny, reasonsIn, anyRows, anySaid};
 
 // The numbers of the trailer at a place.
 fn trailer_at(bytes: &[u8], place: usize) -> Trailer
@@ -133,5 +134,33 @@ pub fn check(bytes: &[u8]) -> Found
     match check_file(bytes) {
         Checked::Refused(refusal) => Found::Refused(refusal),
         Checked::Passed => Found::Value(plain(summary_in(bytes, false))),
+    }
+}
+
+// Whether the last bytes hold version 2.
+fn has_reasons(bytes: &[u8]) -> bool
+    requires { ⌜ trailerWidth ≤ length (now bytes) ⌝ }
+    ensures { λ r. ⌜ r ≡ reasonsIn (now (bytes .entry)) ⌝ }
+{
+    trailer_at(bytes, bytes.len() - TRAILER).version == 2
+}
+
+// The first row that holds for the bytes, by the rows of the version that they hold.
+fn check_any_file(bytes: &[u8]) -> Checked
+    ensures { λ r. ⌜ r ≡ checkOf (anyRows (now (bytes .entry))) ⌝ }
+{
+    if bytes.len() < TRAILER {
+        return Checked::Refused(Refusal::Malformed);
+    }
+    check_at(bytes, has_reasons(bytes), bytes.len() - TRAILER)
+}
+
+// The version, the first record's start, the count and the sum of the file of either version that the bytes end in, or refusal 14.
+pub fn check_any(bytes: &[u8]) -> FoundAny
+    ensures { λ r. ⌜ meansFoundAny r ≡ anySaid (now (bytes .entry)) ⌝ }
+{
+    match check_any_file(bytes) {
+        Checked::Refused(refusal) => FoundAny::Refused(refusal),
+        Checked::Passed => FoundAny::Value(summary_in(bytes, has_reasons(bytes))),
     }
 }

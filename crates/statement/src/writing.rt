@@ -1,125 +1,26 @@
 // A run of payouts as a statement file in a lent buffer.
-use crate::PLACE;
-use crate::REASON;
-use crate::RECORDS;
 use crate::TRAILER;
 use crate::Written;
 use crate::numbers::add;
 use crate::records::put_record_at;
 use crate::records::put_trailer_at;
+use crate::runs::check_plain;
+use crate::runs::check_reasons;
 use crate::version_of;
 use crate::width_of;
-use amount::Amount;
 use currency::Currency;
 use refusal::Checked;
-use refusal::Refusal;
-use whole::magnitude;
 ghost use mathlib.Core.Path.{_≡_};
-ghost use mathlib.Core.Bool.{not, true, false};
+ghost use mathlib.Core.Bool.{true};
 ghost use mathlib.Core.List.{[]};
 ghost use Prim.Native.Nat.{_+_, _*_, _≤_};
-ghost use lib.Dec.{eqb};
 ghost use lib.IntN.{pos};
 ghost use lib.ListN.{length, getD};
-ghost use Rattle.refusal.specs.Rows.{checkOf, meansOutcome};
+ghost use Rattle.refusal.specs.Rows.{meansOutcome};
 ghost use Rattle.statement.specs.Bytes.{pasted};
 ghost use Rattle.statement.specs.Files.{recordBytes, recordWidth, fileOf, fileBytes, fileSize, joined, totalOf};
-ghost use Rattle.statement.specs.Writing.{anyOver, anyPast, runRows, writeRows, reasonsRows, payoutWith, payout, writeSaid, reasonsSaid, endIn, bufferAfter};
+ghost use Rattle.statement.specs.Writing.{payoutWith, payout, writeSaid, reasonsSaid, endIn, bufferAfter};
 ghost use Rattle.statement.specs.Parts.{Few, Writable};
-
-// Whether a coefficient is over L.
-fn any_over(coefficients: &[i64]) -> bool
-    ensures { λ r. ⌜ r ≡ anyOver (now (coefficients .entry)) ⌝ }
-{
-    let mut i = 0;
-    while i < coefficients.len() {
-        if Amount::L < magnitude(coefficients[i]) {
-            return true;
-        }
-        i += 1;
-    }
-    false
-}
-
-// Whether a number of a list is over the last.
-fn any_past(last: u16, numbers: &[u16]) -> bool
-    ensures { λ r. ⌜ r ≡ anyPast last (now (numbers .entry)) ⌝ }
-{
-    let mut i = 0;
-    while i < numbers.len() {
-        if last < numbers[i] {
-            return true;
-        }
-        i += 1;
-    }
-    false
-}
-
-fn differ(one: usize, other: usize) -> bool
-    ensures { λ r. ⌜ r ≡ not (eqb one other) ⌝ }
-{
-    one != other
-}
-
-// Rows 3, 4, 9 and 11 at a run: whether a coefficient is over L, the lists are uneven and one of their numbers is too far, the currency, the
-// count, and the buffer's length with the start in it.
-fn check_run(
-    reasons: bool,
-    over: bool,
-    currency: Currency,
-    uneven: bool,
-    far: bool,
-    count: usize,
-    room: usize,
-    start: usize,
-) -> Checked
-    ensures { λ r. ⌜ r ≡ checkOf (runRows reasons over currency uneven far count room start) ⌝ }
-{
-    if over {
-        return Checked::Refused(Refusal::Magnitude);
-    }
-    if Currency::LAST < currency.0 {
-        return Checked::Refused(Refusal::Unknown);
-    }
-    if uneven {
-        return Checked::Refused(Refusal::Weights);
-    }
-    if far {
-        return Checked::Refused(Refusal::Weights);
-    }
-    if RECORDS < count {
-        return Checked::Refused(Refusal::Room);
-    }
-    if room < start {
-        return Checked::Refused(Refusal::Room);
-    }
-    if room - start < width_of(reasons) * count + TRAILER {
-        return Checked::Refused(Refusal::Room);
-    }
-    Checked::Passed
-}
-
-// The first row that holds for what a call takes.
-fn check(
-    currency: Currency,
-    places: &[u16],
-    coefficients: &[i64],
-    room: usize,
-    start: usize,
-) -> Checked
-    ensures { λ r. ⌜ r ≡ checkOf (writeRows currency (now (places .entry)) (now (coefficients .entry)) room start) ⌝ }
-{
-    check_run(
-        false,
-        any_over(coefficients),
-        currency,
-        differ(places.len(), coefficients.len()),
-        any_past(PLACE, places),
-        places.len(),
-        room,
-        start,
-    )
-}
 
 // The sum of the coefficients, which an i64 holds.
 fn sum_of(coefficients: &[i64]) -> i64
@@ -210,7 +111,7 @@ pub fn write(
     ensures end { λ r. ⌜ r .end ≡ endIn (writeSaid currency (now (places .entry)) (now (coefficients .entry)) (length (now (out .entry))) start) ⌝ }
     ensures buffer { λ _. ⌜ now (out .exit) ≡ bufferAfter (writeSaid currency (now (places .entry)) (now (coefficients .entry)) (length (now (out .entry))) start) start (fileBytes (payout currency (now (places .entry)) (now (coefficients .entry))) (length (now (places .entry)))) (now (out .entry)) ⌝ }
 {
-    match check(currency, places, coefficients, out.len(), start) {
+    match check_plain(currency, places, coefficients, out.len(), start) {
         Checked::Refused(refusal) => Written {
             outcome: Checked::Refused(refusal),
             end: 0,
@@ -226,6 +127,31 @@ pub fn write(
                 out,
                 start,
             ),
+        },
+    }
+}
+
+// The same with a reason code beside each payout, as a file of version 2; a code over 99 and a third list of another length are 9 too.
+pub fn write_reasons(
+    currency: Currency,
+    places: &[u16],
+    reasons: &[u16],
+    coefficients: &[i64],
+    out: &mut [u8],
+    start: usize,
+) -> Written
+    ensures said { λ r. ⌜ meansOutcome (r .outcome) (r .end) ≡ reasonsSaid currency (now (places .entry)) (now (reasons .entry)) (now (coefficients .entry)) (length (now (out .entry))) start ⌝ }
+    ensures end { λ r. ⌜ r .end ≡ endIn (reasonsSaid currency (now (places .entry)) (now (reasons .entry)) (now (coefficients .entry)) (length (now (out .entry))) start) ⌝ }
+    ensures buffer { λ _. ⌜ now (out .exit) ≡ bufferAfter (reasonsSaid currency (now (places .entry)) (now (reasons .entry)) (now (coefficients .entry)) (length (now (out .entry))) start) start (fileOf true (payoutWith currency (now (places .entry)) (now (reasons .entry)) (now (coefficients .entry))) (length (now (places .entry)))) (now (out .entry)) ⌝ }
+{
+    match check_reasons(currency, places, reasons, coefficients, out.len(), start) {
+        Checked::Refused(refusal) => Written {
+            outcome: Checked::Refused(refusal),
+            end: 0,
+        },
+        Checked::Passed => Written {
+            outcome: Checked::Passed,
+            end: put_file(true, currency, places, reasons, coefficients, out, start),
         },
     }
 }

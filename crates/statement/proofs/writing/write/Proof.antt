@@ -12,8 +12,8 @@ use Rattle.statement.proofs.Answered.{answers-refused, answers-written,
 use Rattle.statement.proofs.writing.write.Statement.{statement}
 use Rattle.statement.proofs.writing.write.Tie as tie
 
-check-requires : tie.Need-check-requires
-check-requires c κs = search needs
+check-plain-requires : tie.Need-check-plain-requires
+check-plain-requires c κs = search needs
 
 enum-known-refusal : tie.Need-enum-known-refusal
 enum-known-refusal c = search needs
@@ -33,7 +33,7 @@ part-put-file-end c = search needs
 put-file-requires : tie.Need-put-file-requires
 put-file-requires c κs =
     let a = c .before .before .before .before .before .before .before .args in
-    writable (a .currency) (a .places .now) (a .coefficients .now) (length (a .out .now)) (a .start) (sym (c .before .before .before .before .check .ensures) ∙ c .before .before .enum-told .given .1)
+    writable (a .currency) (a .places .now) (a .coefficients .now) (length (a .out .now)) (a .start) (sym (c .before .before .before .before .check-plain .ensures) ∙ c .before .before .enum-told .given .1)
 
 returns : tie.Need-returns
 unfolding writeSaid
@@ -41,7 +41,7 @@ returns c =
     let a = c .before .before .before .before .before .before .args in
     answers-refused (writeRows (a .currency) (a .places .now) (a .coefficients .now) (length (a .out .now)) (a .start)) (a .start + fileSize false (length (a .places .now))) (a .start)
     (fileBytes (payout (a .currency) (a .places .now) (a .coefficients .now)) (length (a .places .now))) (a .out .now) (c .before .refusal .given .0 .0)
-    (sym (c .before .before .before .check .ensures) ∙ c .before .refusal .given .1)
+    (sym (c .before .before .before .check-plain .ensures) ∙ c .before .refusal .given .1)
 
 same-length : tie.Need-same-length
 same-length c = search needs
@@ -53,13 +53,13 @@ returns-2 c =
     let put = c .before .before .put-file in
     answers-written (writeRows (a .currency) (a .places .now) (a .coefficients .now) (length (a .out .now)) (a .start)) (a .start + fileSize false (length (a .places .now))) (a .start)
     (fileBytes (payout (a .currency) (a .places .now) (a .coefficients .now)) (length (a .places .now))) (a .out .now) (put .result) (put .last .1 .1 .1 .1 .1 .0)
-    (sym (c .before .before .before .before .before .before .before .check .ensures) ∙ c .before .before .before .before .before .enum-told .given .1) (put .ensures .0) (put .ensures .1)
+    (sym (c .before .before .before .before .before .before .before .check-plain .ensures) ∙ c .before .before .before .before .before .enum-told .given .1) (put .ensures .0) (put .ensures .1)
 
 pub write-spec : {M : Type 1} → statement M
 write-spec =
     tie.close
     (tie.spec
-    check-requires
+    check-plain-requires
     enum-known-refusal
     enum-told
     sub-put-file

@@ -12,8 +12,8 @@ use Rattle.whole.proofs.Laws.{read-back}
 use Rattle.amount.specs.Amounts.{largest}
 use Rattle.statement.specs.Writing.{anyOf, overAt}
 use Rattle.statement.proofs.Any.{none-yet, still-none, found}
-use Rattle.statement.proofs.writing.any_over.Statement.{statement}
-use Rattle.statement.proofs.writing.any_over.Tie as tie
+use Rattle.statement.proofs.runs.any_over.Statement.{statement}
+use Rattle.statement.proofs.runs.any_over.Tie as tie
 use Rattle.whole.proofs.magnitude.Reads as magnitude-reads
 
 abbrev Inv-loop : tie.InvT-loop

@@ -7,8 +7,8 @@ use native.Mathlib.Nat.{mul-le-mul}
 use borrow.Author.Tests.{lt-ltb, le-ltb}
 use Rattle.statement.specs.Files.{recordWidth, fileSize}
 use Rattle.statement.proofs.Widths.{narrow}
-use Rattle.statement.proofs.writing.check_run.Statement.{statement}
-use Rattle.statement.proofs.writing.check_run.Tie as tie
+use Rattle.statement.proofs.runs.check_run.Statement.{statement}
+use Rattle.statement.proofs.runs.check_run.Tie as tie
 
 -- the bytes of the records, by the version's width
 bytes-of : (c : tie.After-width-of) → c .width-of .result * c .before .before .before .before .before .before .before .before .args .count ≡ recordWidth (c .before .before .before .before .before .before .before .before .args .reasons) * c .before .before .before .before .before .before .before .before .args .count

@@ -8,8 +8,8 @@ use borrow.Author.Tests.{lt-ltb, le-ltb}
 use lib.ListN.{length, getD}
 use Rattle.statement.specs.Writing.{anyOf, pastAt}
 use Rattle.statement.proofs.Any.{none-yet, still-none, found}
-use Rattle.statement.proofs.writing.any_past.Statement.{statement}
-use Rattle.statement.proofs.writing.any_past.Tie as tie
+use Rattle.statement.proofs.runs.any_past.Statement.{statement}
+use Rattle.statement.proofs.runs.any_past.Tie as tie
 
 abbrev Inv-loop : tie.InvT-loop
 Inv-loop last numbers i₀ i = (i ≤ length numbers) × (anyOf (pastAt last numbers) i ≡ false)

@@ -3,8 +3,8 @@ use mathlib.Core.Path.{_≡_, refl, sym, _∙_, ap, ap₂}
 use native.Mathlib.Omega.{arith}
 use borrow.Author.Needs.{needs}
 use Rattle.statement.specs.Writing.{writeRows}
-use Rattle.statement.proofs.writing.check.Statement.{statement}
-use Rattle.statement.proofs.writing.check.Tie as tie
+use Rattle.statement.proofs.runs.check_plain.Statement.{statement}
+use Rattle.statement.proofs.runs.check_plain.Tie as tie
 
 any-over-requires : tie.Need-any-over-requires
 any-over-requires c κs = search needs
@@ -23,8 +23,8 @@ unfolding writeRows
 returns c =
     rw (sym (c .before .before .before .any-over .ensures), sym (c .before .before .differ .ensures), sym (c .before .any-past .ensures)) (c .check-run .ensures)
 
-pub check-spec : {M : Type 1} → statement M
-check-spec =
+pub check-plain-spec : {M : Type 1} → statement M
+check-plain-spec =
     tie.close
     (tie.spec
     any-over-requires
