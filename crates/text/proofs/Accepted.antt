@@ -177,7 +177,7 @@ module _ (bytes : List ℕ) (s : ℕ) where
     counted : length (slice s e bytes) ≡ e - s
     counted = length-slice s e bytes (within inside)
 
-    whole-plain : getD (slice s e bytes) 0 0 ≡ 48 → length (slice s e bytes) ≡ 1
+    pub whole-plain : getD (slice s e bytes) 0 0 ≡ 48 → length (slice s e bytes) ≡ 1
     whole-plain h =
         let first : getD bytes s 0 ≡ 48 = sym (ap (λ (xs : List ℕ). getD xs 0 0) (slice-cons s e bytes 0 some-digits (within inside))) ∙ h in
         let short = ltb-false (s + 1) e (one-fails (eqb (getD bytes s 0) 48) _ (both-fail (leb e s) _ good .1) (eq-eqb (getD bytes s 0) 48 first)) in
@@ -189,6 +189,13 @@ start-inside [] = omega arith
 start-inside (b ∷ bs) = by (eqb b 45)
   where
     by : (t : Bool) → cond t 1 0 ≤ suc (length bs)
+    by true = omega arith
+    by false = omega arith
+
+pub start-one : (bytes : List ℕ) → startIn bytes ≤ 1
+start-one bytes = by (negativeIn bytes)
+  where
+    by : (t : Bool) → cond t 1 0 ≤ 1
     by true = omega arith
     by false = omega arith
 

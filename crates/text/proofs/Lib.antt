@@ -3,6 +3,7 @@ pub mod Spelled
 mod Parts
 pub mod Accepted
 mod Numbers
+mod Pass
 mod Placed
 pub mod OneText
 pub mod Exactly

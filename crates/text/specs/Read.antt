@@ -11,8 +11,6 @@ use Rattle.refusal.specs.Rows.{Said, gives, Row, row, firstRow}
 use Rattle.refusal.specs.declared.Refusal.the-variants.{Unknown, Malformed, Limit}
 use Rattle.whole.specs.Whole.{signedOf}
 use Rattle.lines.specs.Lines.{span, isDigit, worth}
-use Rattle.lines.specs.declared.Number.{Number}
-use Rattle.lines.specs.declared.Number.the-variants.{Whole, Nothing}
 use Rattle.currency.specs.declared.Currency.{Currency}
 use Rattle.currency.specs.Table.{unknown}
 use Rattle.amount.specs.declared.Amount.{Amount}
@@ -83,11 +81,6 @@ readSaid currency bytes =
 unfoldable pub madeSaid : Currency → (negative : Bool) (scale m : ℕ) → Said Amount
 madeSaid currency negative scale m =
     firstRow (row Malformed (signedZero negative m) ∷ row Limit (overL m) ∷ []) (gives (amountIn currency negative scale m))
-
--- the number that a word is, without its sign; 0 for none
-unfoldable pub readAs : Number → ℕ
-readAs (Whole negative m) = m
-readAs Nothing = 0
 
 -- the places of a text whose shape is good
 pub record Shaped (bytes : List ℕ) (start end : ℕ) : Type 0 where

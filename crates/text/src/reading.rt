@@ -2,22 +2,27 @@
 use amount::Amount;
 use amount::Answer;
 use currency::Currency;
-use currency::power_of_ten;
-use lines::Number;
-use lines::Word;
-use lines::read_number;
 use refusal::Refusal;
 use whole::signed;
 ghost use mathlib.Core.Path.{_≡_};
-ghost use Prim.Native.Nat.{suc, min, _+_, _*_, _^_, _≤_};
-ghost use lib.Dec.{ltb};
+ghost use mathlib.Core.Bool.{false};
+ghost use Prim.Native.Nat.{_^_, _<_, _≤_};
 ghost use lib.ListN.{length};
-ghost use Rattle.lines.specs.Reads.{numberAt as wordAt};
-ghost use Rattle.amount.specs.Amounts.{largest, meansAmount};
-ghost use Rattle.text.specs.Read.{startIn, digitsEnd, numberAt, scaleAt, badWhole, badFraction, badShape, readSaid, madeSaid, readAs, Shaped};
+ghost use Rattle.currency.specs.Table.{unknown};
+ghost use Rattle.amount.specs.Amounts.{meansAmount};
+ghost use Rattle.text.specs.Read.{startIn, digitsEnd, scaleAt, badWhole, badFraction, badShape, readSaid, madeSaid};
+ghost use Rattle.text.specs.Scan.{mostShort, badPoint, restSaid, Scanned};
 
 // The most characters of a text.
 const CHARACTERS: usize = 20;
+// And of one within L: a minus, fifteen digits and a point.
+const SHORT: usize = 17;
+
+// Where digits end, and the number that they make behind the digits before them.
+pub(crate) struct Counted {
+    end: usize,
+    number: u64,
+}
 
 // The place behind the minus, or the first where there is none.
 fn start_of(bytes: &[u8]) -> usize
@@ -61,13 +66,11 @@ fn bad_whole(bytes: &[u8], start: usize, end: usize) -> bool
     start + 1 < end
 }
 
-// Something else than a point with 1 to 6 digits up to the end.
-fn bad_fraction(bytes: &[u8], end: usize) -> bool
-    ensures { λ r. ⌜ r ≡ badFraction (now (bytes .entry)) end ⌝ }
+// No point, or not 1 to 6 bytes behind it.
+fn bad_point(bytes: &[u8], end: usize) -> bool
+    requires { ⌜ end < length (now bytes) ⌝ }
+    ensures { λ r. ⌜ r ≡ badPoint (now (bytes .entry)) end ⌝ }
 {
-    if bytes.len() <= end {
-        return false;
-    }
     if bytes[end] != b'.' {
         return true;
     }
@@ -75,7 +78,17 @@ fn bad_fraction(bytes: &[u8], end: usize) -> bool
     if count == 0 {
         return true;
     }
-    if (Amount::SCALE as usize) < count {
+    (Amount::SCALE as usize) < count
+}
+
+// Something else than a point with 1 to 6 digits up to the end.
+fn bad_fraction(bytes: &[u8], end: usize) -> bool
+    ensures { λ r. ⌜ r ≡ badFraction (now (bytes .entry)) end ⌝ }
+{
+    if bytes.len() <= end {
+        return false;
+    }
+    if bad_point(bytes, end) {
         return true;
     }
     digits_end(bytes, end + 1) < bytes.len()
@@ -94,29 +107,6 @@ fn bad_shape(bytes: &[u8], start: usize, end: usize) -> bool
     bad_fraction(bytes, end)
 }
 
-// The number of the digits between two places, or the largest that a u64 holds; 0 for no digits.
-fn digits_at(bytes: &[u8], start: usize, end: usize) -> u64
-    ensures { λ r. ⌜ r ≡ readAs (wordAt (now (bytes .entry)) (record { start = start; end = end })) ⌝ }
-{
-    match read_number(bytes, Word { start, end }) {
-        Number::Whole(_, m) => m,
-        Number::Nothing => 0,
-    }
-}
-
-// The number of the digits before the point and after it, or the first over L.
-fn joined(whole: u64, fraction: u64, scale: u8) -> u64
-    requires { ⌜ (scale ≤ 6) × (fraction ≤ 1000000) ⌝ }
-    ensures { λ r. ⌜ r ≡ min (whole * 10 ^ scale + fraction) (suc largest) ⌝ }
-{
-    let power = power_of_ten(scale);
-    if Amount::L / power < whole {
-        return Amount::L + 1;
-    }
-    let m = whole * power + fraction;
-    if Amount::L < m { Amount::L + 1 } else { m }
-}
-
 // How many digits stand behind the point.
 fn scale_of(count: usize, end: usize) -> u8
     requires { ⌜ scaleAt count end ≤ 6 ⌝ }
@@ -126,16 +116,6 @@ fn scale_of(count: usize, end: usize) -> u8
         return 0;
     }
     (count - (end + 1)) as u8
-}
-
-// The text's number without its sign, or the first over L.
-fn number_at(bytes: &[u8], start: usize, end: usize, scale: u8) -> u64
-    requires { ⌜ Shaped (now bytes) start end × (scale ≡ scaleAt (length (now bytes)) end) ⌝ }
-    ensures { λ r. ⌜ r ≡ min (numberAt (now (bytes .entry)) start end) (suc largest) ⌝ }
-{
-    let whole = digits_at(bytes, start, end);
-    let fraction = digits_at(bytes, end + 1, bytes.len());
-    joined(whole, fraction, scale)
 }
 
 // The amount, or refusal 14 for a minus on zero, or 13 over L.
@@ -157,13 +137,71 @@ fn amount_of(currency: Currency, negative: bool, scale: u8, m: u64) -> Answer
     })
 }
 
-fn read_shaped(currency: Currency, bytes: &[u8], start: usize, end: usize) -> Answer
-    requires { ⌜ Shaped (now bytes) start end ⌝ }
-    ensures { λ r. ⌜ meansAmount r ≡ madeSaid currency (ltb 0 start) (scaleAt (length (now (bytes .entry))) end) (numberAt (now (bytes .entry)) start end) ⌝ }
+// The digits from a place on, behind digits that make `before`, of a text that is short enough for a word to hold its number.
+fn scan(bytes: &[u8], at: usize, before: u64) -> Counted
+    requires { ⌜ (at ≤ length (now bytes)) × (length (now bytes) ≤ mostShort) × (before < 10 ^ at) ⌝ }
+    ensures { λ r. ⌜ Scanned (now (bytes .entry)) at before (r .end) (r .number) ⌝ }
 {
+    let mut i = at;
+    let mut number = before;
+    while i < bytes.len() {
+        let next = bytes[i];
+        if next < 48 {
+            return Counted { end: i, number };
+        }
+        if 57 < next {
+            return Counted { end: i, number };
+        }
+        number = number * 10 + (next - 48) as u64;
+        i += 1;
+    }
+    Counted { end: i, number }
+}
+
+// What follows the digits before the point, which end at a place and make a number.
+fn read_rest(currency: Currency, negative: bool, bytes: &[u8], end: usize, number: u64) -> Answer
+    requires { ⌜ (end ≤ length (now bytes)) × (length (now bytes) ≤ mostShort) × (number < 10 ^ end) ⌝ }
+    ensures { λ r. ⌜ meansAmount r ≡ restSaid currency negative (now (bytes .entry)) end number ⌝ }
+{
+    if bytes.len() <= end {
+        return amount_of(currency, negative, 0, number);
+    }
+    if bad_point(bytes, end) {
+        return Answer::Refused(Refusal::Malformed);
+    }
+    let fraction = scan(bytes, end + 1, number);
+    if fraction.end < bytes.len() {
+        return Answer::Refused(Refusal::Malformed);
+    }
     let scale = scale_of(bytes.len(), end);
-    let m = number_at(bytes, start, end, scale);
-    amount_of(currency, 0 < start, scale, m)
+    amount_of(currency, negative, scale, fraction.number)
+}
+
+// In one pass: each digit is tested and counts at once.
+fn read_short(currency: Currency, bytes: &[u8]) -> Answer
+    requires { ⌜ (unknown currency ≡ false) × (length (now bytes) ≤ mostShort) ⌝ }
+    ensures { λ r. ⌜ meansAmount r ≡ readSaid currency (now (bytes .entry)) ⌝ }
+{
+    let start = start_of(bytes);
+    let whole = scan(bytes, start, 0);
+    let end = whole.end;
+    if bad_whole(bytes, start, end) {
+        return Answer::Refused(Refusal::Malformed);
+    }
+    read_rest(currency, 0 < start, bytes, end, whole.number)
+}
+
+// A text of a good shape that is longer is over L.
+fn read_long(currency: Currency, bytes: &[u8]) -> Answer
+    requires { ⌜ (unknown currency ≡ false) × (mostShort < length (now bytes)) ⌝ }
+    ensures { λ r. ⌜ meansAmount r ≡ readSaid currency (now (bytes .entry)) ⌝ }
+{
+    let start = start_of(bytes);
+    let end = digits_end(bytes, start);
+    if bad_shape(bytes, start, end) {
+        return Answer::Refused(Refusal::Malformed);
+    }
+    Answer::Refused(Refusal::Limit)
 }
 
 // The amount that a text of a currency is: its digits after the point are its scale; or the refusal 4, 14 or 13.
@@ -173,10 +211,8 @@ pub fn read(currency: Currency, bytes: &[u8]) -> Answer
     if Currency::LAST < currency.0 {
         return Answer::Refused(Refusal::Unknown);
     }
-    let start = start_of(bytes);
-    let end = digits_end(bytes, start);
-    if bad_shape(bytes, start, end) {
-        return Answer::Refused(Refusal::Malformed);
+    if SHORT < bytes.len() {
+        return read_long(currency, bytes);
     }
-    read_shaped(currency, bytes, start, end)
+    read_short(currency, bytes)
 }
