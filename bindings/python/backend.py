@@ -32,7 +32,8 @@ def _about() -> dict[str, bytes]:
     lines = ["Metadata-Version: 2.1", "Name: morskebab", f"Version: {_version()}", f"Summary: {_project('description')}",
              f"Requires-Python: {_project('requires-python')}"]
     wheel = ["Wheel-Version: 1.0", "Generator: morskebab", "Root-Is-Purelib: false", f"Tag: {_tag()}"]
-    return {"METADATA": "\n".join(lines + [""]).encode(), "WHEEL": "\n".join(wheel + [""]).encode()}
+    command = ["[console_scripts]", f"morskebab = {_project('morskebab')}"]
+    return {name: "\n".join([*held, ""]).encode() for name, held in (("METADATA", lines), ("WHEEL", wheel), ("entry_points.txt", command))}
 
 
 def _tag() -> str:
