@@ -43,7 +43,8 @@ enum mkb_refusal {
     MKB_LIMIT = 13,    /* the result, the euro step, a row of a table or the new net total, the settled totals added, is over L, or a plain quotient over 10^18 */
     MKB_MALFORMED = 14, /* a text isn't of its form, or the bytes end in no statement file */
     MKB_NO_NET = 15,   /* no net has the gross */
-    MKB_NO_NUMBER = 16 /* a double is no number or infinite */
+    MKB_NO_NUMBER = 16, /* a double is no number or infinite */
+    MKB_NEWER = 17 /* the bytes end in a statement file's trailer of version 2; stands before 14 */
 };
 
 /* away from zero, toward zero, toward the greater, toward the lesser; to the nearest, a half away from zero, toward zero, to the even */
@@ -273,15 +274,16 @@ mkb_ran mkb_run(mkb_book book, const bool *refunds, size_t calls, const int64_t 
  * is refused: 3, 4, 9 where the lists' lengths differ or a place is over 15, 11 where there are more than 4,000 or too little room */
 mkb_end mkb_write_statement(int64_t currency, const uint16_t *places, size_t count, const int64_t *coefficients, size_t others, uint8_t *out, size_t room,
                             int64_t start);
-/* the statement file that the bytes end in: its first record's start, its count and its sum; 14 where they end in none */
+/* the statement file that the bytes end in: its first record's start, its count and its sum; 17 where their trailer is of version 2, else 14 where
+ * they end in none */
 mkb_statement mkb_check_statement(const uint8_t *bytes, size_t count);
 
-/* where a view of the statement file that the bytes end in begins; 14 where they end in none */
+/* where a view of the statement file that the bytes end in begins: refusals 17 and 14 as above */
 mkb_first mkb_first_payout(const uint8_t *bytes, size_t count);
 /* the record at a place of such bytes, and the place behind it; ended, and the place itself, where no whole record stands there before the trailer */
 mkb_step mkb_payout_at(const uint8_t *bytes, size_t count, int64_t at);
 
-/* a view of the statement file that the bytes end in: 0, or 14 where they end in none, and the view has ended then */
+/* a view of the statement file that the bytes end in: 0, or 17 or 14, and the view has ended then */
 static inline uint8_t mkb_open_view(mkb_view *view, const uint8_t *bytes, size_t count)
 {
     mkb_first start = mkb_first_payout(bytes, count);

@@ -37,6 +37,24 @@ static void one_byte_off(void)
     }
 }
 
+/* a trailer of version 2 with its six zeros is newer, whatever stands before its version, and nothing else is */
+static void newer(void)
+{
+    uint8_t bytes[24];
+    memset(bytes, 0xff, 16);
+    for (int version = 0; version < 600; version++)
+        for (int zero = 0; zero < 7; zero++) {
+            memset(bytes + 16, 0, 8);
+            bytes[16] = (uint8_t)version, bytes[17] = (uint8_t)(version >> 8);
+            if (zero)
+                bytes[17 + zero] = 1;
+            int number = version == 2 && !zero ? MKB_NEWER : MKB_MALFORMED;
+            checked("a trailer's version", bytes, sizeof bytes, number, 0, 0, 0);
+            tell(mkb_first_payout(bytes, sizeof bytes).refusal == number, "a view's version");
+        }
+    checked("a byte too few to be newer", bytes + 1, 23, MKB_MALFORMED, 0, 0, 0);
+}
+
 static void writing(void)
 {
     static uint16_t places[4001];
@@ -82,5 +100,6 @@ void statements(void)
     checked("23 bytes", one, 23, MKB_MALFORMED, 0, 0, 0);
     checked("its trailer alone", one + 16, 24, MKB_MALFORMED, 0, 0, 0);
     one_byte_off();
+    newer();
     writing();
 }

@@ -407,8 +407,12 @@ def statements():
     same(check_statement(large), Statement(0, 4000, -4000 * L))
     refused(11, lambda: write_statement(DEM, [0] * 4001, [0] * 4001, bytearray(70000)))
     refused(11, lambda: write_statement(DEM, [], [], bytearray()))
-    for data in (b"", ONE[:-1], ONE[1:], ONE + b"\0", ONE[:32] + b"\2" + ONE[33:]):
+    for data in (b"", ONE[:-1], ONE[1:], ONE + b"\0", ONE[:32] + b"\3" + ONE[33:], ONE[:32] + b"\2" + ONE[33:39] + b"\1"):
         refused(14, lambda: check_statement(data))
+    # a trailer of version 2 is newer, whatever stands before its version
+    for data in (ONE[:32] + b"\2" + ONE[33:], b"\xff" * 16 + b"\2" + bytes(7)):
+        refused(17, lambda: check_statement(data))
+        refused(17, lambda: View(data))
     named(TypeError, "out", lambda: write_statement(EUR, [1], [1], b"1234"))
     named(TypeError, "data", lambda: check_statement("1234"))
     named(OverflowError, "places[0]", lambda: write_statement(EUR, [65536], [1], out))
@@ -432,7 +436,7 @@ def views():
     empty = bytearray(24)
     write_statement(DEM, [], [], empty)
     same(list(View(empty)), [])
-    for data in (b"", bytearray(), ONE[:-1], ONE[1:], ONE + b"\0", ONE[:32] + b"\2" + ONE[33:]):
+    for data in (b"", bytearray(), ONE[:-1], ONE[1:], ONE + b"\0", ONE[:32] + b"\3" + ONE[33:]):
         refused(14, lambda: View(data))
     # a buffer that a view holds keeps its size, so that no place of it goes away
     held = bytearray(ONE)

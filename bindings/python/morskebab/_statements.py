@@ -51,15 +51,15 @@ def write_statement(currency: int, places: Sequence[int], coefficients: Sequence
 
 
 def check_statement(data: Bytes) -> Statement:
-    """The statement file that the bytes end in: refusal 14 where they end in none."""
+    """The statement file that the bytes end in: refusal 17 where their trailer is of version 2, else 14 where they end in none."""
     lent = Memory("data", data)
     answer = accepted(library.mkb_check_statement(lent.first, lent.length))
     return Statement(answer.first, answer.count, answer.sum)
 
 
 class View:
-    """An iterator over the payouts of the statement file that the bytes end in, in file order and each once: refusal 14 where they end in none. It
-    keeps hold of the bytes, which nobody should change meanwhile, and of its place among them."""
+    """An iterator over the payouts of the statement file that the bytes end in, in file order and each once: refusals 17 and 14 as by
+    `check_statement`. It keeps hold of the bytes, which nobody should change meanwhile, and of its place among them."""
 
     def __init__(self, data: Bytes) -> None:
         self._lent = Memory("data", data)

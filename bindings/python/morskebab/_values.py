@@ -23,6 +23,7 @@ REASONS = {
     14: "a text isn't of its form, or the bytes end in no statement file",
     15: "no net has the gross",
     16: "a double is no number or infinite",
+    17: "the bytes end in a statement file's trailer of version 2",
 }
 
 

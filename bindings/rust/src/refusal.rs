@@ -43,6 +43,8 @@ pub enum Refusal {
     NoNet,
     /// 16: a double is no number or infinite
     NoNumber,
+    /// 17: the bytes end in a statement file's trailer of version 2; stands before 14
+    Newer,
 }
 
 impl Refusal {
@@ -65,6 +67,7 @@ impl Refusal {
             Refusal::Malformed => 14,
             Refusal::NoNet => 15,
             Refusal::NoNumber => 16,
+            Refusal::Newer => 17,
         }
     }
 
@@ -88,6 +91,7 @@ impl Refusal {
             Refusal::Malformed => "a text isn't of its form, or the bytes end in no statement file",
             Refusal::NoNet => "no net has the gross",
             Refusal::NoNumber => "a double is no number or infinite",
+            Refusal::Newer => "the bytes end in a statement file's trailer of version 2",
         }
     }
 
@@ -112,6 +116,7 @@ impl Refusal {
             14 => Refusal::Malformed,
             15 => Refusal::NoNet,
             16 => Refusal::NoNumber,
+            17 => Refusal::Newer,
             other => panic!("the archive answered with {other}, which the table doesn't have"),
         })
     }

@@ -35,7 +35,7 @@ pub fn write_statement(currency: Currency, places: &[u16], coefficients: &[i64],
     Refusal::or(r.refusal, r.blamed, r.end as usize)
 }
 
-/// The statement file that the bytes end in: refusal 14 where they end in none.
+/// The statement file that the bytes end in: refusal 17 where their trailer is of version 2, else 14 where they end in none.
 pub fn check_statement(bytes: &[u8]) -> Result<Statement, Refusal> {
     // SAFETY: the pointer goes with the slice's length
     let r = unsafe { ffi::mkb_check_statement(bytes.as_ptr(), bytes.len()) };
@@ -58,7 +58,7 @@ pub struct View<'a> {
 }
 
 impl<'a> View<'a> {
-    /// A view of the statement file that the bytes end in: refusal 14 where they end in none.
+    /// A view of the statement file that the bytes end in: refusals 17 and 14 as by [`check_statement`].
     pub fn open(bytes: &'a [u8]) -> Result<Self, Refusal> {
         // SAFETY: the pointer goes with the slice's length
         let r = unsafe { ffi::mkb_first_payout(bytes.as_ptr(), bytes.len()) };

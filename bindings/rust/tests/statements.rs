@@ -36,6 +36,13 @@ fn refusals() {
     for bytes in [&ONE[..39], &ONE[1..], &[]] {
         assert_eq!(check_statement(bytes), Err(Refusal::Malformed));
     }
+    // a trailer of version 2 is newer, whatever stands before its version
+    for version in 0..=4 {
+        let mut bytes = [0xff; 24];
+        bytes[16..].copy_from_slice(&[version, 0, 0, 0, 0, 0, 0, 0]);
+        let refusal = if version == 2 { Refusal::Newer } else { Refusal::Malformed };
+        assert_eq!((check_statement(&bytes), View::open(&bytes).err()), (Err(refusal), Some(refusal)));
+    }
 }
 
 #[test]

@@ -38,7 +38,7 @@ pub extern "C" fn mkb_write_statement(
     flat_end(written)
 }
 
-// The first record's start, the count and the sum of the statement file that the bytes end in, or refusal 14.
+// The first record's start, the count and the sum of the statement file that the bytes end in, or refusal 17 or 14.
 #[no_mangle]
 pub extern "C" fn mkb_check_statement(bytes: &[u8]) -> MkbStatement
     ensures { λ r. ⌜ r ≡ statementOf (readSaid (now (bytes .entry))) ⌝ }

@@ -1,7 +1,9 @@
 -- What `read_at` and `place_after` answer at the place that is passed on, flattened. Assumes nothing.
-use mathlib.Core.Path.{_∙_, ap₂}
+use mathlib.Core.Bool.{false}
+use mathlib.Core.Path.{_∙_, ap, ap₂}
 use mir.Syntax.{w64}
 use mir.ValLaws.{toZ-ofZ}
+use Rattle.statement.specs.Walking.{stepAt, placeAfter}
 use Rattle.flat.specs.Views.{stepOf}
 use borrow.Author.Needs.{needs}
 use Rattle.morskebab.proofs.views.mkb_payout_at.Statement.{statement}
@@ -23,8 +25,8 @@ returns : tie.Need-returns
 returns c =
     let a = c .before .before .before .before .before in
     let place = simp (toZ-ofZ w64 (a .args .at) (a .fits .at)) at (c .before .before .before .pass-u64 .ensures) in
-    let read = simp (place) at (c .before .read-at .ensures) in
-    let after = simp (place) at (c .before .before .place-after .ensures) in c .flat-step .ensures ∙ ap₂ stepOf read after
+    let read = c .before .read-at .ensures ∙ ap (stepAt _) place in
+    let after = c .before .before .place-after .ensures ∙ ap (placeAfter false _) place in c .flat-step .ensures ∙ ap₂ stepOf read after
 
 pub mkb-payout-at-spec : {M : Type 1} → statement M
 mkb-payout-at-spec = tie.close (tie.spec pass-u64-requires place-after-requires read-at-requires flat-step-requires returns)
