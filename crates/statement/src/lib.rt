@@ -113,6 +113,8 @@ fn version_of(reasons: bool) -> u16
 
 pub use reading::check;
 pub use reading::check_any;
+pub use walking::any_place_after;
+pub use walking::any_step_at;
 pub use walking::place_after;
 pub use walking::step_at;
 pub use writing::write;
