@@ -21,7 +21,7 @@ def made(name, *words):
 
 def measured(*words):
     """What it prints, its processor seconds and its megabytes at most."""
-    with tempfile.TemporaryFile() as out, subprocess.Popen(words, stdout=out) as process:
+    with tempfile.TemporaryFile() as out, subprocess.Popen(words, stdout=out, stderr=subprocess.DEVNULL) as process:
         _, status, used = os.wait4(process.pid, 0)
         process.returncode = os.waitstatus_to_exitcode(status)
         assert process.returncode == 0, f"{words} ended with {process.returncode}"
@@ -35,7 +35,7 @@ def main(command, rows):
         contracts = made("contracts.csv", "csv", "long-contracts", SUM)
         again = [command, "rerun", "--contracts", contracts, "--json", "--postings"]
         made("long.txt", "long", str(rows), SUM)
-        subprocess.run([str(ROOT / "run"), "rerun", "long.txt"], stdout=subprocess.DEVNULL, check=True)
+        subprocess.run([str(ROOT / "run"), "rerun", "long.txt"], stdout=subprocess.DEVNULL, stderr=subprocess.DEVNULL, check=True)
         lines, plain, _ = measured(str(ROOT / "run"), "rerun", "long.txt")
         out, taken, most = measured(*again, made("long.csv", "csv", "long", str(rows), SUM))
         _, _, least = measured(*again, made("short.csv", "csv", "long", str(rows // 10), SUM))

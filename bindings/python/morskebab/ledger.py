@@ -7,8 +7,8 @@ from ctypes import c_bool, c_int64, c_uint8, c_uint64
 from dataclasses import dataclass, field
 from itertools import compress
 
-from . import Book, Refused, _library
-from ._c import PARTNERS
+from . import Book, Refused
+from ._c import PARTNERS, library
 from .contracts import Contract
 
 # the calls of one batch; the amounts whose worth is kept in mind; the points of a picture
@@ -51,7 +51,7 @@ class Batch:
         self.refunds[:calls] = bytes(refunds)
         memoryview(self.coefficients)[:calls] = array("q", coefficients)
         lent = self._lent
-        answer = _library.mkb_run(book._c(), lent[0], calls, lent[1], calls, lent[2], PARTNERS * CALLS, lent[3], CALLS)
+        answer = library.mkb_run(book._c(), lent[0], calls, lent[1], calls, lent[2], PARTNERS * CALLS, lent[3], CALLS)
         if answer.refusal:
             raise Refused(answer.refusal, answer.blamed)
         return Book._of(answer.book)

@@ -5,35 +5,18 @@ import argparse
 import csv
 import json
 import os
-import struct
 import sys
-from collections.abc import Callable, Iterator
-from typing import Any, NamedTuple
+from collections.abc import Callable
+from typing import Any
 
-from . import Amount, Refused, check_statement, currency_line, write_statement
+from . import Amount, Refused, View, check_statement, currency_line, write_statement
 from . import contracts as _contracts
 from .contracts import Contract, Unsound, name_of
 from .report import ALL_WELL, CHECK_FAILED, NOT_ALL_ACCEPTED, READING_FAILED, amount, cell, check_of_book, end_line, laid_out, together
 from .tables import EMPTY, NotATable, Table, shown
 
-# a record's bytes, and the most that a statement takes
-RECORD = 16
+# the most bytes that a statement takes
 ROOM = 4000 * 24 + 24
-
-
-class Record(NamedTuple):
-    """A payout of a statement: the partner's place, the currency's number and the coefficient at the currency's digits."""
-
-    place: int
-    currency: int
-    coefficient: int
-
-
-def records(data: bytes) -> Iterator[Record]:
-    """The records of the statement that the bytes end in, in the file's order: refusal 14 where they end in none."""
-    found = check_statement(data)
-    for place, currency, coefficient in struct.iter_unpack("<HH4xq", data[found.first : found.first + RECORD * found.count]):
-        yield Record(place, currency, coefficient)
 
 
 def book_of(contracts: dict[str, Contract], name: str | None, path: str) -> Contract:
@@ -128,7 +111,7 @@ def do_view(words: argparse.Namespace) -> int:
         data = file.read()
     try:
         found = check_statement(data)
-        held = list(records(data))
+        held = list(View(data))
     except Refused as refusal:
         print(f"morskebab: {words.file}: {refusal}", file=sys.stderr)
         return NOT_ALL_ACCEPTED
@@ -141,7 +124,7 @@ def do_view(words: argparse.Namespace) -> int:
             print(f"morskebab: {words.file}: the statement is in {code}, and book {shown(contract.name)} in {contract.code}", file=sys.stderr)
             return NOT_ALL_ACCEPTED
         partners = contract.partners
-    rows = [(record.place, partners[record.place] if record.place < len(partners) else "", amount(record.coefficient, digits)) for record in held]
+    rows = [(payout.place, partners[payout.place] if payout.place < len(partners) else "", amount(payout.coefficient, digits)) for payout in held]
     show(words, code, amount(found.sum, digits), rows)
     return ALL_WELL
 

@@ -11,7 +11,7 @@ from collections.abc import Iterator, Mapping, Sequence
 from typing import BinaryIO, NamedTuple, TextIO
 
 # characters read at a time; the most of a line; the most lines of a row, whose quotes may hold line ends; the most of a text that is shown
-BLOCK = 1 << 21
+BLOCK = 1 << 20
 LINE = 1 << 20
 SPAN = 200
 SHOWN = 200
