@@ -155,7 +155,8 @@ def spellings():
     same(report["books"][0]["cards"][0]["net"], "1.75")
     report = rerun(HEAD + "2023-01-01,A,post,1.00,EUR,r", status=4)
     same((report["unended"], report["rows"], report["refused"]), (True, 1, []))
-    same(rerun(HEAD)["rows"], 0)
+    report = rerun(HEAD, contracts=CONTRACTS.rstrip(), status=4)
+    same((report["unended"], report["unended_contracts"], rerun(HEAD)["rows"]), (False, True, 0))
 
 
 def cards():

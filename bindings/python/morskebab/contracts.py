@@ -59,6 +59,12 @@ class Contract:
         return [self.cards[card].weights.get(partner, 0) for partner in self.partners]
 
 
+class Contracts(dict[str, Contract]):
+    """The contracts by the books' names, in the file's order, and whether the file's last line has no end."""
+
+    unended = False
+
+
 def name_of(text: str) -> str:
     """A name as it is compared: letters that are composed in two ways are the same, and spaces around it no part of it."""
     return unicodedata.normalize("NFC", text.strip())
@@ -75,7 +81,7 @@ class _Reading:
     """What is read so far, and what is wrong with it."""
 
     def __init__(self) -> None:
-        self.contracts: dict[str, Contract] = {}
+        self.contracts = Contracts()
         self.faults: list[tuple[int, str]] = []
 
     def take(self, line: int, words: list[str]) -> None:
@@ -122,8 +128,8 @@ class _Reading:
         return None
 
 
-def read(path: str, columns: Mapping[str, str] | None = None, encoding: str | None = None, separator: str | None = None) -> dict[str, Contract]:
-    """The contracts of a file by the books' names, in the file's order. A row is one partner's weight from a day on; rows of one book and one day are
+def read(path: str, columns: Mapping[str, str] | None = None, encoding: str | None = None, separator: str | None = None) -> Contracts:
+    """The contracts of a file. A row is one partner's weight from a day on; rows of one book and one day are
     a card, and may stand anywhere. Raises Unsound with all that is wrong, and NotATable where the file has no rows at all."""
     table = Table(path, {name: (columns or {}).get(name, name) for name in COLUMNS}, encoding, separator)
     reading = _Reading()
@@ -143,4 +149,5 @@ def read(path: str, columns: Mapping[str, str] | None = None, encoding: str | No
         raise Unsound(table.name, reading.faults)
     if not reading.contracts:
         raise NotATable(f"{table.name}: there is no contract behind the header")
+    reading.contracts.unended = table.unended
     return reading.contracts

@@ -8,7 +8,7 @@ from typing import TYPE_CHECKING, TextIO
 
 from . import __version__
 from .ledger import Ledger, Part
-from .report import Figures, amount, check_of_book, check_of_part, counted, end_line, exact, figures, not_reached, signed, together
+from .report import Figures, amount, check_of_book, check_of_part, counted, end_line, exact, figures, joined, not_reached, signed, together
 from .style import STYLE
 from .tables import shown
 
@@ -55,7 +55,7 @@ def _head(quarter: Quarter, when: str) -> Iterator[str]:
         1: ("A check FAILED: see the books below.", "bad"),
         3: (f"The postings could not be read to their end: {text(quarter.failed)}.", "bad"),
     }.get(status, (f"Every check is ok; {quarter.listed} rows were refused or not understood." if quarter.listed
-                   else "Every check is ok; the last line of the postings is unended.", "warn"))
+                   else "Every check is ok; the last line of the postings or of the contracts is unended.", "warn"))
     yield f'<header><h1>Share books</h1><p class="when">{when}</p><p class="verdict {mood}">{verdict}</p>'
     yield "<dl>"
     for name, value in (("Contracts", text(quarter.contracts)), ("Postings", text(quarter.postings)), ("Books", f"{len(books)}"),
@@ -169,7 +169,7 @@ def _refused(rows: list[Listed], count: int) -> Iterator[str]:
     yield '<table class="refused"><thead><tr><th>Line</th><th>Reference</th><th>Why</th><th>Row</th></tr></thead><tbody>'
     for row in rows:
         why = f"refusal {row.number}: {row.reason}" if row.number else row.reason
-        cells = (("Line", str(row.line)), ("Reference", row.reference), ("Why", why), ("Row", ",".join(row.words)))
+        cells = (("Line", str(row.line)), ("Reference", row.reference), ("Why", why), ("Row", joined(row.words)))
         yield "<tr>" + "".join(f'<td data-name="{name}">{text(value)}</td>' for name, value in cells) + "</tr>"
     yield "</tbody></table>"
     if count > len(rows):

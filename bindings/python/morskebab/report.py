@@ -150,16 +150,21 @@ def _book(ledger: Ledger) -> Iterator[str]:
         yield f"no row came to the card from {day}"
 
 
+def joined(words: list[str]) -> str:
+    """A row's words as they stand in a CSV file."""
+    return ",".join('"' + word.replace('"', '""') + '"' if any(c in word for c in ',"\n') else word for word in words)
+
+
 def listed(row: Listed) -> Iterator[str]:
     why = f"refusal {row.number}: {row.reason}" if row.number else f"not understood: {row.reason}"
     yield f"line {row.line}, reference {shown(row.reference) or 'none'}, {f'book {shown(row.book)}' if row.book else 'no book'}: {why}"
-    yield "    " + shown(",".join(row.words))
+    yield "    " + shown(joined(row.words))
 
 
 def end_line(quarter: Quarter) -> str:
     if quarter.failed:
         return f"end FAILED after {quarter.lines} lines: {quarter.failed}"
-    return f"end {quarter.lines} lines" + ", the last one unended" * quarter.unended
+    return f"end {quarter.lines} lines" + ", the last one unended" * quarter.unended + "; the last line of the contracts is unended" * quarter.unended_contracts
 
 
 def write_table(quarter: Quarter, out: TextIO) -> None:
@@ -206,7 +211,7 @@ def write_refused(quarter: Quarter, out: TextIO) -> None:
     writer = csv.writer(out, lineterminator="\n")
     writer.writerow(["line", "reference", "book", "refusal", "reason", "words"])
     for row in quarter.refused():
-        writer.writerow([row.line, cell(row.reference), cell(row.book), row.number or "", row.reason, cell(",".join(row.words))])
+        writer.writerow([row.line, cell(row.reference), cell(row.book), row.number or "", row.reason, cell(joined(row.words))])
 
 
 def _json_partners(lines: list[Figures], digits: int) -> list[dict]:
@@ -234,7 +239,7 @@ def _json_book(ledger: Ledger) -> dict:
 def write_json(quarter: Quarter, out: TextIO) -> None:
     """One object, by the schema of docs/PACKAGES.md; the refused rows are written as they are read back."""
     head = {"schema": SCHEMA, "version": __version__, "contracts": quarter.contracts, "postings": quarter.postings, "rows": quarter.rows,
-            "lines": quarter.lines, "unended": quarter.unended, "failed": quarter.failed, "status": quarter.status,
+            "lines": quarter.lines, "unended": quarter.unended, "unended_contracts": quarter.unended_contracts, "failed": quarter.failed, "status": quarter.status,
             "no_book": _json_counts(quarter.nowhere)}
     out.write(json.dumps(head)[:-1] + ', "books": [')
     for place, ledger in enumerate(quarter.books):

@@ -31,6 +31,16 @@ KINDS = {"post": False, "posting": False, "refund": True}
 CLOCK = re.compile(r"[T ](?:[01][0-9]|2[0-3]):[0-5][0-9]|")
 SECONDS = re.compile(r"(?::(?:[0-5][0-9]|60)(?:[.,][0-9]{1,9})?)?(?: ?Z| ?[+-][0-9]{2}(?::?[0-9]{2})?)?")
 KEPT = 1 << 16
+# the refusals that a row can have, in words about a row
+WHY = {
+    2: "the amount has another number of digits behind the point than the currency",
+    4: "the currency's code is none of the table's",
+    5: "the currency isn't the book's",
+    10: "the amount is negative",
+    12: "the refund is greater than the card's net total",
+    13: "the amount, or the book's total with it, is over the largest amount",
+    14: "the amount's text isn't of the form 12.50",
+}
 # the most of a word that is listed
 WORD = 1000
 
@@ -70,7 +80,7 @@ class Quarter:
         self.books = list(ledgers.values())
         self.nowhere = Counts()
         self.rows = self.lines = self.listed = 0
-        self.unended = False
+        self.unended = self.unended_contracts = False
         self.failed = ""
         self._spool = tempfile.TemporaryFile("w+", encoding="utf-8", errors="surrogatepass", newline="\n")  # noqa: SIM115
         self.first: dict[str, list[Listed]] = {}
@@ -97,7 +107,7 @@ class Quarter:
             return READING_FAILED
         if any(check_of_book(book) != "ok" for book in self.books):
             return CHECK_FAILED
-        return NOT_ALL_ACCEPTED if self.listed or self.unended else ALL_WELL
+        return NOT_ALL_ACCEPTED if self.listed or self.unended or self.unended_contracts else ALL_WELL
 
 
 class _Run:
@@ -183,7 +193,7 @@ class _Run:
     def refuse_all(self, block: Block, ledger: Ledger, refused: list[tuple[int, int]]) -> None:
         """Rows that the library refused."""
         for place, number in refused:
-            self.refuse(block.lines[place], block.rows[place], ledger, number, REASONS[number])
+            self.refuse(block.lines[place], block.rows[place], ledger, number, WHY.get(number, REASONS[number]))
 
     def refuse(self, line: int, row: list[str], ledger: Ledger | None, number: int, reason: str) -> None:
         (ledger.part if ledger else self.quarter.nowhere).refuse(number, line)
@@ -218,7 +228,7 @@ def worth(ledger: Ledger, refund: bool, code: str, text: str) -> tuple[int, int,
         # any other currency, scale or sign is refused by the book, whatever its net total
         (ledger.book.refund if refund else ledger.book.post)(amount)
     except Refused as refusal:
-        reason = REASONS[refusal.number]
+        reason = WHY.get(refusal.number, REASONS[refusal.number])
         return refusal.number, 0, f"{reason}: {shown(code)!r}" if refusal.number == 4 else f"{reason}: {shown(text)!r}"
     raise AssertionError(f"the book took {amount!r}")
 
@@ -256,5 +266,5 @@ def rerun(contracts: str, postings: str, *, columns: Mapping[str, Mapping[str, s
             quarter.failed = str(error)
     for ledger in ledgers.values():
         ledger.end(run.batch)
-    quarter.lines, quarter.unended = table.lines, table.unended
+    quarter.lines, quarter.unended, quarter.unended_contracts = table.lines, table.unended, held.unended
     return quarter

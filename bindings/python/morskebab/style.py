@@ -28,8 +28,11 @@ thead th{color:#57606a;font-size:.82rem;font-weight:500;border-bottom-color:#afb
 th:first-child{text-align:left;padding-left:0;overflow-wrap:anywhere}
 tbody th{font-weight:600}
 td:last-child,th:last-child{padding-right:0}
-.refused th,.refused td{text-align:left;overflow-wrap:anywhere}
-.refused td:first-child{padding-left:0}
+td,thead th{white-space:nowrap}
+.refused th,.refused td{text-align:left;white-space:normal;overflow-wrap:anywhere}
+.refused td:first-child{padding-left:0;white-space:nowrap}
+.refused th:first-child{white-space:nowrap}
+.refused td:nth-child(2){min-width:8rem}
 .refused td:last-child{font-family:ui-monospace,"DejaVu Sans Mono",monospace;font-size:.85em;width:42%}
 figure{margin:.6rem 0 0}
 .lane{display:flex;align-items:center;gap:.8rem;margin-bottom:.5rem}
@@ -55,6 +58,7 @@ td::before{content:attr(data-name);color:#57606a;font-size:.85rem;flex:none}
 .refused td{display:block}
 .refused td::before{display:block}
 .refused td:last-child{width:auto}
+td{white-space:normal;overflow-wrap:anywhere}
 .lane{display:block;margin-bottom:.7rem}
 .who span{display:inline;margin-left:.4rem}
 svg{width:100%;height:3.4rem}
@@ -64,6 +68,7 @@ svg{width:100%;height:3.4rem}
 body{max-width:none;padding:0;font-size:10.5pt}
 section{break-before:auto}
 table,figure,.lane,tr{break-inside:avoid}
+.refused{break-inside:auto}
 h2,h3{break-after:avoid}
 svg{height:1.4cm}
 nav{display:none}
