@@ -494,8 +494,9 @@ def processes():
 
 
 def versions():
-    header = (pathlib.Path(__file__).parent.parent / "c" / "morskebab.h").read_text()
-    same((morskebab.__version__, morskebab.VERSION), ("2.0.0", int(re.search(r"#define MKB_VERSION UINT32_C\((\d+)\)", header)[1])))
+    root = pathlib.Path(__file__).resolve().parents[2]
+    header = (root / "bindings" / "c" / "morskebab.h").read_text()
+    same((morskebab.__version__, morskebab.VERSION), ((root / "VERSION").read_text().strip(), int(re.search(r"#define MKB_VERSION UINT32_C\((\d+)\)", header)[1])))
 
 
 def main():
