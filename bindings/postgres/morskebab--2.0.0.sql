@@ -247,29 +247,29 @@ CREATE FUNCTION mkb_book_report(state internal) RETURNS mkb_report
 CREATE FUNCTION mkb_try_book_report(state internal) RETURNS mkb_report
     AS 'MODULE_PATHNAME', 'try_book_report' LANGUAGE C IMMUTABLE PARALLEL SAFE;
 CREATE AGGREGATE mkb_book(weights integer[], kind text, amount numeric)
-    (SFUNC = mkb_book_row, STYPE = internal, FINALFUNC = mkb_book_report, PARALLEL = SAFE);
+    (SFUNC = mkb_book_row, STYPE = internal, SSPACE = 20000, FINALFUNC = mkb_book_report, PARALLEL = SAFE);
 CREATE AGGREGATE mkb_book(weights numeric[], kind text, amount numeric)
-    (SFUNC = mkb_book_row, STYPE = internal, FINALFUNC = mkb_book_report, PARALLEL = SAFE);
+    (SFUNC = mkb_book_row, STYPE = internal, SSPACE = 20000, FINALFUNC = mkb_book_report, PARALLEL = SAFE);
 CREATE AGGREGATE mkb_book(currency text, weights integer[], kind text, amount numeric)
-    (SFUNC = mkb_book_row, STYPE = internal, FINALFUNC = mkb_book_report, PARALLEL = SAFE);
+    (SFUNC = mkb_book_row, STYPE = internal, SSPACE = 20000, FINALFUNC = mkb_book_report, PARALLEL = SAFE);
 CREATE AGGREGATE mkb_book(currency text, weights numeric[], kind text, amount numeric)
-    (SFUNC = mkb_book_row, STYPE = internal, FINALFUNC = mkb_book_report, PARALLEL = SAFE);
+    (SFUNC = mkb_book_row, STYPE = internal, SSPACE = 20000, FINALFUNC = mkb_book_report, PARALLEL = SAFE);
 CREATE AGGREGATE mkb_book(currency text, weights integer[], kind text, amount numeric, amount_currency text)
-    (SFUNC = mkb_book_row, STYPE = internal, FINALFUNC = mkb_book_report, PARALLEL = SAFE);
+    (SFUNC = mkb_book_row, STYPE = internal, SSPACE = 20000, FINALFUNC = mkb_book_report, PARALLEL = SAFE);
 CREATE AGGREGATE mkb_book(currency text, weights numeric[], kind text, amount numeric, amount_currency text)
-    (SFUNC = mkb_book_row, STYPE = internal, FINALFUNC = mkb_book_report, PARALLEL = SAFE);
+    (SFUNC = mkb_book_row, STYPE = internal, SSPACE = 20000, FINALFUNC = mkb_book_report, PARALLEL = SAFE);
 CREATE AGGREGATE mkb_try_book(weights integer[], kind text, amount numeric)
-    (SFUNC = mkb_book_row, STYPE = internal, FINALFUNC = mkb_try_book_report, PARALLEL = SAFE);
+    (SFUNC = mkb_book_row, STYPE = internal, SSPACE = 20000, FINALFUNC = mkb_try_book_report, PARALLEL = SAFE);
 CREATE AGGREGATE mkb_try_book(weights numeric[], kind text, amount numeric)
-    (SFUNC = mkb_book_row, STYPE = internal, FINALFUNC = mkb_try_book_report, PARALLEL = SAFE);
+    (SFUNC = mkb_book_row, STYPE = internal, SSPACE = 20000, FINALFUNC = mkb_try_book_report, PARALLEL = SAFE);
 CREATE AGGREGATE mkb_try_book(currency text, weights integer[], kind text, amount numeric)
-    (SFUNC = mkb_book_row, STYPE = internal, FINALFUNC = mkb_try_book_report, PARALLEL = SAFE);
+    (SFUNC = mkb_book_row, STYPE = internal, SSPACE = 20000, FINALFUNC = mkb_try_book_report, PARALLEL = SAFE);
 CREATE AGGREGATE mkb_try_book(currency text, weights numeric[], kind text, amount numeric)
-    (SFUNC = mkb_book_row, STYPE = internal, FINALFUNC = mkb_try_book_report, PARALLEL = SAFE);
+    (SFUNC = mkb_book_row, STYPE = internal, SSPACE = 20000, FINALFUNC = mkb_try_book_report, PARALLEL = SAFE);
 CREATE AGGREGATE mkb_try_book(currency text, weights integer[], kind text, amount numeric, amount_currency text)
-    (SFUNC = mkb_book_row, STYPE = internal, FINALFUNC = mkb_try_book_report, PARALLEL = SAFE);
+    (SFUNC = mkb_book_row, STYPE = internal, SSPACE = 20000, FINALFUNC = mkb_try_book_report, PARALLEL = SAFE);
 CREATE AGGREGATE mkb_try_book(currency text, weights numeric[], kind text, amount numeric, amount_currency text)
-    (SFUNC = mkb_book_row, STYPE = internal, FINALFUNC = mkb_try_book_report, PARALLEL = SAFE);
+    (SFUNC = mkb_book_row, STYPE = internal, SSPACE = 20000, FINALFUNC = mkb_try_book_report, PARALLEL = SAFE);
 
 -- The same run, of the calls in two lists, with a row for each call: its place from 1 on; its refusal, null where its kind is not understood; the net total
 -- behind it; and what each partner is paid, or what is taken back from each, null where it is refused. Lists of unequal length are refused with 9, and a

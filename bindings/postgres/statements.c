@@ -1,9 +1,10 @@
 /* Statement files, as bytea. */
 #include "answers.h"
 
-/* a file's records and its trailer */
+/* the bytes of a file's record and of its trailer, and the most records of a file */
 #define RECORD 16
 #define TRAILER 24
+#define MOST_RECORDS 4000
 
 /* the lists of a statement as the library takes them; `other_digits`: an amount is not at the currency's own digits */
 typedef struct {
@@ -48,7 +49,7 @@ statement_answer(FunctionCallInfo fcinfo)
 {
     int32_t currency = currency_given(PG_GETARG_DATUM(0));
     payouts given = payouts_given(currency, PG_GETARG_ARRAYTYPE_P(1), PG_GETARG_ARRAYTYPE_P(2));
-    size_t room = (size_t) RECORD * given.count + TRAILER;
+    size_t room = RECORD * (size_t) Min(given.count, MOST_RECORDS) + TRAILER;
     bytea *file = palloc(VARHDRSZ + room);
     mkb_end found;
     answer told;
