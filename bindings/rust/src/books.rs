@@ -4,6 +4,21 @@ use crate::{ffi, Amount, Currency, Refusal};
 /// A currency, a count of 1 to 16, as many weights with a sum of 1 to 10,000 and noughts behind them, a net total of 0 to L, a card number of 1 to
 /// 1,000, and as many settled totals with noughts behind them, which sum to L at most with the net total.
 /// Any values may stand in it: every call checks them all, and answers with the next book.
+///
+/// ```
+/// use morskebab::{Amount, Book, Currency, Refusal};
+/// let euros = |cents| Amount::new(Currency(0), 2, cents);
+/// let book = Book::open(Currency(0), &[5, 3, 2])?;
+/// let paid = book.post(euros(7))?;
+/// assert_eq!(paid.payouts[..3], [4, 2, 1]);
+/// let taken = paid.book.refund(euros(3))?;
+/// assert_eq!(taken.book.running_totals()?[..3], [2, 1, 1]);
+/// assert_eq!(taken.book.refund(euros(5)), Err(Refusal::Refund));
+/// // a new card settles what was paid so far
+/// let next = taken.book.card(&[1, 1, 1])?.book;
+/// assert_eq!((next.card, next.net, &next.settled[..3]), (2, 0, &[2, 1, 1][..]));
+/// # Ok::<(), morskebab::Refusal>(())
+/// ```
 #[derive(Clone, Copy, Debug, PartialEq, Eq)]
 pub struct Book {
     pub currency: Currency,
@@ -73,6 +88,15 @@ impl Book {
     /// Refunds (true) or posts (false) each coefficient in turn, as `refund` and `post` would, and answers with the last book. Call j's payouts go
     /// to place j, zeros where it is refused, and so does its refusal number, 0 where it is accepted; places past the run stay. Refused, with
     /// nothing written: 3, 4, 9, 10 of the book itself, 9 where the lists' lengths differ, 11 where there is too little room.
+    ///
+    /// ```
+    /// use morskebab::{Book, Currency};
+    /// let (mut payouts, mut numbers) = ([[0; 16]; 3], [0; 3]);
+    /// let book = Book::open(Currency(0), &[5, 3, 2])?.run(&[false, false, true], &[7, 5, 20], &mut payouts, &mut numbers)?;
+    /// // the refund is greater than the net total: refusal 12
+    /// assert_eq!((book.net, numbers, payouts[1][0]), (12, [0, 0, 12], 2));
+    /// # Ok::<(), morskebab::Refusal>(())
+    /// ```
     pub fn run(self, refunds: &[bool], coefficients: &[i64], payouts: &mut [[u64; 16]], numbers: &mut [u8]) -> Result<Book, Refusal> {
         let (paid, room) = (payouts.as_mut_ptr().cast(), 16 * payouts.len());
         let (said, places) = (numbers.as_mut_ptr(), numbers.len());

@@ -15,12 +15,14 @@
 //! ```
 #![deny(unsafe_op_in_unsafe_fn)]
 mod books;
+mod dates;
 mod ffi;
 mod refusal;
 mod statements;
 mod texts;
 
 pub use books::{Book, Moved};
+pub use dates::{day_count, Basis, Date};
 pub use refusal::{Blamed, Refusal};
 pub use statements::{check_statement, write_statement, Payout, Statement, View};
 use std::cmp::Ordering;
@@ -36,26 +38,6 @@ pub mod mode {
     pub const HALF_EVEN: u8 = 6;
 }
 
-/// The day count bases, by their numbers.
-#[derive(Clone, Copy, Debug, PartialEq, Eq)]
-#[repr(u8)]
-pub enum Basis {
-    /// Actual days / 360.
-    Actual360 = 0,
-    /// Actual days / 365.
-    Actual365 = 1,
-    /// 30/360, the bond basis of ISDA 2006, which loan contracts mean: a second day 31 becomes 30 only where the first is then 30.
-    Thirty360American = 2,
-    /// 30E/360: a day 31 in either date becomes 30.
-    Thirty360European = 3,
-}
-
-impl From<Basis> for i64 {
-    fn from(basis: Basis) -> i64 {
-        basis as i64
-    }
-}
-
 /// The version of the library that is linked: 10,000 x major + 100 x minor + patch.
 pub fn version() -> u32 {
     // SAFETY: nothing crosses but the answer
@@ -63,6 +45,12 @@ pub fn version() -> u32 {
 }
 
 /// a x b / d rounded by the mode, the product exact: refusals 1, 3, 6, 13. A quotient n / d is the one of the factors n and 1.
+///
+/// ```
+/// use morskebab::{mode, plain_quotient, Refusal};
+/// assert_eq!(plain_quotient(mode::HALF_EVEN, -5, 1, 2), Ok(-2));
+/// assert_eq!(plain_quotient(mode::FLOOR, 1_000_000_000_000, 1_000_000_000_000, 3), Err(Refusal::Limit));
+/// ```
 pub fn plain_quotient(mode: u8, a: i64, b: i64, d: u64) -> Result<i64, Refusal> {
     // SAFETY: numbers alone cross
     let r = unsafe { ffi::mkb_round(mode.into(), a, b, i64::try_from(d).unwrap_or(i64::MAX)) };
@@ -147,6 +135,14 @@ pub struct Columns {
 
 impl Row {
     /// Both columns at the scale, 0 to 3, from the doubles' exact worth, rounded by the mode: refusals 1, 2, 4, 13, 16.
+    ///
+    /// ```
+    /// use morskebab::{mode, Currency, Row};
+    /// let columns = Row { net: 2.675, tax: 0.125 }.take(Currency(0), 2, mode::HALF_UP)?;
+    /// // the double 2.675 lies below 2.675
+    /// assert_eq!((columns.net.coefficient, columns.tax.coefficient), (267, 13));
+    /// # Ok::<(), morskebab::Refusal>(())
+    /// ```
     pub fn take(self, currency: Currency, scale: u8, mode: u8) -> Result<Columns, Refusal> {
         let row = ffi::Columns { net: self.net, tax: self.tax };
         // SAFETY: numbers alone cross
@@ -186,6 +182,13 @@ impl Amount {
     }
 
     /// In the currency `to`, by Council Regulation (EC) No 1103/97, articles 4 and 5: refusals 2, 3, 4, 13.
+    ///
+    /// ```
+    /// use morskebab::{Amount, Currency};
+    /// let marks = Amount::new(Currency(2), 2, 10_000);
+    /// assert_eq!(marks.convert(Currency(4))?.to_string(), "FRF 335.38");
+    /// # Ok::<(), morskebab::Refusal>(())
+    /// ```
     pub fn convert(self, to: Currency) -> Result<Amount, Refusal> {
         unsafe { ffi::mkb_convert(self.into(), to.0.into()) }.into()
     }
@@ -197,12 +200,28 @@ impl Amount {
     }
 
     /// This x rate x days / (10,000 x year), rounded once: refusals 1, 2, 3, 4, 6, 7, 8, 13.
+    ///
+    /// ```
+    /// use morskebab::{mode, Amount, Basis, Currency, Date};
+    /// let (start, end) = (Date::new(2023, 2, 28), Date::new(2023, 3, 31));
+    /// let paid = Amount::new(Currency(0), 2, 100_000).interest(500, Basis::Thirty360American, start, end, mode::HALF_UP)?;
+    /// assert_eq!(paid.to_string(), "EUR 4.58");
+    /// # Ok::<(), morskebab::Refusal>(())
+    /// ```
     pub fn interest(self, rate: u32, basis: Basis, start: Date, end: Date, mode: u8) -> Result<Amount, Refusal> {
         unsafe { ffi::mkb_interest(self.into(), rate.into(), basis.into(), start.into(), end.into(), mode.into()) }.into()
     }
 
     /// This and its balance after each period, each the one before and its interest, rate / 10,000 rounded HALF_EVEN, into the first places of
     /// `out`, one more than periods; the others, and every place where the call is refused, stay as they stood: refusals 2, 3, 4, 6, 10, 11, 13.
+    ///
+    /// ```
+    /// use morskebab::{Amount, Currency};
+    /// let mut table = [0; 4];
+    /// Amount::new(Currency(0), 2, 10_000).compound(500, 3, &mut table)?;
+    /// assert_eq!(table, [10_000, 10_500, 11_025, 11_576]);
+    /// # Ok::<(), morskebab::Refusal>(())
+    /// ```
     pub fn compound(self, rate: u32, periods: u32, out: &mut [i64]) -> Result<(), Refusal> {
         let number = unsafe { ffi::mkb_compound(self.into(), rate.into(), periods.into(), out.as_mut_ptr(), out.len()) };
         Refusal::or(number, 0, ())
@@ -219,6 +238,14 @@ impl Amount {
     }
 
     /// The price of the only net that has this gross: refusals 1, 2, 3, 4, 6, and 15 where no net has it.
+    ///
+    /// ```
+    /// use morskebab::{mode, Amount, Currency, Refusal};
+    /// let cents = |coefficient| Amount::new(Currency(0), 2, coefficient);
+    /// assert_eq!(cents(4).net_for(200_000, mode::HALF_UP)?.net, cents(3));
+    /// assert_eq!(cents(3).net_for(200_000, mode::HALF_UP), Err(Refusal::NoNet));
+    /// # Ok::<(), morskebab::Refusal>(())
+    /// ```
     pub fn net_for(self, rate: u32, mode: u8) -> Result<Split, Refusal> {
         unsafe { ffi::mkb_net_for(self.into(), rate.into(), mode.into()) }.into()
     }
@@ -231,6 +258,14 @@ impl Amount {
 
     /// The shares by largest remainder into the first places of `out`, as many as weights; the others, and every place where the call is
     /// refused, stay as they stood: refusals 2, 3, 4, 9, 11.
+    ///
+    /// ```
+    /// use morskebab::{Amount, Currency};
+    /// let mut shares = [0; 3];
+    /// Amount::new(Currency(0), 2, 100).share(&[3, 3, 1], &mut shares)?;
+    /// assert_eq!(shares, [43, 43, 14]);
+    /// # Ok::<(), morskebab::Refusal>(())
+    /// ```
     pub fn share(self, weights: &[u32], out: &mut [i64]) -> Result<(), Refusal> {
         let number = unsafe { ffi::mkb_share(self.into(), weights.as_ptr(), weights.len(), out.as_mut_ptr(), out.len()) };
         Refusal::or(number, 0, ())
@@ -239,40 +274,15 @@ impl Amount {
 
 /// So many whole vouchers by highest average into the first places of `out`, as many as weights; the others, and every place where the call is
 /// refused, stay as they stood: refusals 6, 9, 11.
+///
+/// ```
+/// let mut out = [0; 4];
+/// morskebab::vouchers(8, &[100_000, 80_000, 30_000, 20_000], &mut out)?;
+/// assert_eq!(out, [4, 3, 1, 0]);
+/// # Ok::<(), morskebab::Refusal>(())
+/// ```
 pub fn vouchers(count: u32, weights: &[u32], out: &mut [u32]) -> Result<(), Refusal> {
     // SAFETY: a slice is lent whole
     let number = unsafe { ffi::mkb_vouchers(count.into(), weights.as_ptr(), weights.len(), out.as_mut_ptr(), out.len()) };
     Refusal::or(number, 0, ())
-}
-
-/// A date; [`Date::exists`] says whether there is one.
-#[derive(Clone, Copy, Debug, PartialEq, Eq)]
-pub struct Date {
-    pub year: u16,
-    pub month: u8,
-    pub day: u8,
-}
-
-impl From<Date> for ffi::Date {
-    fn from(d: Date) -> Self {
-        ffi::Date { year: d.year.into(), month: d.month.into(), day: d.day.into() }
-    }
-}
-
-impl Date {
-    pub const fn new(year: u16, month: u8, day: u8) -> Self {
-        Date { year, month, day }
-    }
-
-    /// Whether the Gregorian calendar has the date, from 1900 to 2199.
-    pub fn exists(self) -> bool {
-        unsafe { ffi::mkb_date_exists(self.into()) }
-    }
-}
-
-/// The days from the start to the end by the basis: refusals 7, 8.
-pub fn day_count(basis: Basis, start: Date, end: Date) -> Result<u32, Refusal> {
-    // SAFETY: as above
-    let r = unsafe { ffi::mkb_day_count(basis.into(), start.into(), end.into()) };
-    Refusal::or(r.refusal, r.blamed, r.days)
 }

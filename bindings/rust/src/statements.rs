@@ -51,6 +51,15 @@ pub struct Payout {
 }
 
 /// The payouts of a statement file in file order, each once. It borrows the bytes and keeps its place among them.
+///
+/// ```
+/// use morskebab::{write_statement, Currency, View};
+/// let mut out = [0; 56];
+/// assert_eq!(write_statement(Currency(0), &[2, 0], &[-1_250, 700], &mut out, 0), Ok(56));
+/// let payouts: Vec<(u16, i64)> = View::open(&out)?.map(|payout| (payout.place, payout.coefficient)).collect();
+/// assert_eq!(payouts, [(2, -1_250), (0, 700)]);
+/// # Ok::<(), morskebab::Refusal>(())
+/// ```
 #[derive(Clone, Debug)]
 pub struct View<'a> {
     bytes: &'a [u8],
