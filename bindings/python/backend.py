@@ -9,7 +9,7 @@ import re
 import subprocess
 import sysconfig
 import zipfile
-from collections.abc import Iterator
+from collections.abc import Iterable, Iterator
 from typing import Any
 
 HERE = pathlib.Path(__file__).resolve().parent
@@ -61,9 +61,23 @@ def prepare_metadata_for_build_wheel(metadata_directory: str, config_settings: A
 
 def build_wheel(wheel_directory: str, config_settings: Any = None, metadata_directory: str | None = None) -> str:
     subprocess.run([str(ROOT / "bindings" / "shared")], check=True)
+    return _packed(wheel_directory, _files())
+
+
+def build_editable(wheel_directory: str, config_settings: Any = None, metadata_directory: str | None = None) -> str:
+    """For `pip install -e`: the module is read where it stands, and the library is that of the target folder."""
+    subprocess.run([str(ROOT / "bindings" / "shared")], check=True)
+    return _packed(wheel_directory, [("morskebab.pth", f"{HERE}\n".encode())])
+
+
+prepare_metadata_for_build_editable = prepare_metadata_for_build_wheel
+
+
+def _packed(wheel_directory: str, files: Iterable[tuple[str, bytes]]) -> str:
+    """The wheel's name; its list of files has each with its sum."""
     name, record = f"morskebab-{_version()}-{_tag()}.whl", []
     with zipfile.ZipFile(pathlib.Path(wheel_directory) / name, "w", zipfile.ZIP_DEFLATED) as wheel:
-        for path, held in [*_files(), *((f"{_folder()}/{path}", held) for path, held in _about().items())]:
+        for path, held in [*files, *((f"{_folder()}/{path}", held) for path, held in _about().items())]:
             wheel.writestr(path, held)
             sum_ = base64.urlsafe_b64encode(hashlib.sha256(held).digest()).rstrip(b"=").decode()
             record.append(f"{path},sha256={sum_},{len(held)}\n")

@@ -7,10 +7,12 @@ import io
 import json
 import os
 import pathlib
+import random
 import sys
 import tempfile
 
 import morskebab
+from morskebab import ledger, tables
 from morskebab.cli import main as command
 
 ROOT = pathlib.Path(__file__).resolve().parents[2]
@@ -101,7 +103,12 @@ def forms():
          [("A", "Xaver", "0.67", "0.66", "2", "3", "1"), ("A", "Yvonne", "0.33", "0.33", "1", "3", "-1"), ("B", "Zoe", "0.00", "0.00", "0", "1", "0")])
     has(told, "1 rows were refused")
     same([row["line"] for row in csv.DictReader(io.StringIO(pathlib.Path("refused.csv").read_text()))], ["3"])
-    report = rerun(HEAD + "2023-01-01,A,post,1.00,EUR,r1\n")
+    report = rerun(HEAD + "2023-01-01,A,post,1.00,EUR,r1\n2023-01-01,A,post,1.0,EUR,r1\n", status=4)
+    same(list(report), "schema version contracts postings rows lines unended unended_contracts failed status no_book books refused".split())
+    same(list(report["no_book"]), "accepted refused not_understood refusals".split())
+    same(list(report["books"][0]), "name currency digits cards together not_reached check".split())
+    same(list(report["books"][0]["cards"][0]), "number from rows posted refunded net partners check".split())
+    same(report["refused"], [{"line": 3, "book": "A", "reference": "r1", "number": 2, "reason": report["refused"][0]["reason"], "words": "2023-01-01 A post 1.0 EUR r1".split()}])
     same(report["books"][0]["cards"][0]["partners"][0],
          {"name": "Xaver", "weight": 2, "paid": "0.67", "taken_back": "0.00", "total": "0.67", "least": "0.66", "most": "0.67",
           "exact_share": {"units": "0.66", "numerator": 2, "denominator": 3}, "distance": {"numerator": 1, "denominator": 3}})
@@ -145,6 +152,7 @@ def spellings():
             for encoding in ("utf-8", "utf-8-sig", "utf-16"):
                 report = rerun(held.getvalue().encode(encoding))
                 same([[card["net"] for card in book["cards"]] for book in report["books"]], [["0.50"], ["0.00"]])
+    same(rerun("sep=|\n\n" + HEAD.replace(",", "|") + "2023-01-01|A|post|1.00|EUR|a;b,c\n")["rows"], 1)
     report = rerun((HEAD + "2023-01-01,Caf\u00e9,post,1.00,EUR,r\n").encode("latin-1"), "--encoding", "latin-1", contracts=CONTRACTS.replace("A,", "Cafe\u0301,").encode("utf-8-sig"))
     same(report["books"][0]["cards"][0]["net"], "1.00")
     report = rerun(HEAD + " 2023-01-01 , A , Post , 1.00 , EUR ,r\n\n2023-01-01,A,REFUND,1.00,EUR,\"two\nlines\"\n2023-01-01,C,post,1.00,EUR,r\n", status=4)
@@ -157,6 +165,56 @@ def spellings():
     same((report["unended"], report["rows"], report["refused"]), (True, 1, []))
     report = rerun(HEAD, contracts=CONTRACTS.rstrip(), status=4)
     same((report["unended"], report["unended_contracts"], rerun(HEAD)["rows"]), (False, True, 0))
+
+
+def blocks():
+    """However the file is cut into blocks, the rows, their lines and what is no row are the same, and no line is lost."""
+    source = random.Random(29)
+    pieces = ["1,2\n", "\n", '"a\nb",c\n', '"a\n\nb""",c\n', '"x"y,z\n', "é,ü\n", '"open,1\n', "1\n", "7" * 90 + ",8\n", ',"\n', '"",""\n', "1,2,3\n"]
+    stood = tables.BLOCK, tables.LINE
+    for _ in range(150):
+        text = "".join(source.choices(pieces, k=source.randint(0, 12))) + source.choice(["", "9,9"])
+        put("t.csv", "p,q\n" + text)
+        found = []
+        for tables.BLOCK in (60, 1, 2, 3, 5, 8, 13, 40):
+            tables.LINE = 60
+            table = tables.Table("t.csv", {"p": "p", "q": "q"})
+            held = list(table.blocks())
+            rows = sorted((line, row) for block in held for line, row in zip(block.lines, block.rows) if row not in tables.EMPTY)
+            faults = sorted((fault.line, len(fault.words)) for block in held for fault in block.faults)
+            found.append((rows, [line for line, _ in faults], table.lines, table.unended))
+        tables.BLOCK, tables.LINE = stood
+        same([part for part in found if part != found[0]], [])
+        covered = [line + more for line, row in found[0][0] for more in range(1 + sum(word.count("\n") for word in row))] + found[0][1]
+        wanted = [line for line, held in enumerate(text.split("\n"), 2) if held]
+        same([line for line in wanted if line not in covered], [])
+
+
+def texts():
+    """The quick way of an amount's text is the library's, wherever it is taken."""
+    source = random.Random(29)
+    for digits, currency in ((0, morskebab.ITL), (2, morskebab.EUR)):
+        quick = ledger.Amounts(digits)
+        taken = 0
+        for _ in range(4000):
+            text = "".join(source.choices("0123456789..-+ e", k=source.randint(0, 4))) if source.random() < 0.5 else amount_near(source, digits)
+            try:
+                coefficient = quick[text]
+            except KeyError:
+                try:
+                    by_library = morskebab.Amount.parse(currency, text)
+                    assert by_library.scale != digits or by_library.coefficient < 0, text
+                except morskebab.Refused:
+                    pass
+                continue
+            same(repr(morskebab.Amount.parse(currency, text)), repr(morskebab.Amount(currency, digits, coefficient)))
+            taken += 1
+        assert taken > 500, taken
+
+
+def amount_near(source, digits):
+    whole = str(source.randint(0, 10 ** source.randint(0, 17)))
+    return whole + ("." + "".join(source.choices("0123456789", k=source.choice([digits, digits, digits, 1, 3, 7]))) if source.random() < 0.9 and digits else "")
 
 
 def cards():
@@ -243,7 +301,7 @@ def pages():
 def main():
     with tempfile.TemporaryDirectory() as folder:
         os.chdir(folder)
-        for part in (examples, forms, rows, spellings, cards, contracts_and_commands, statements, pages):
+        for part in (examples, forms, rows, blocks, texts, spellings, cards, contracts_and_commands, statements, pages):
             part()
     print(f"command: {passed} checks passed, over {pathlib.Path(morskebab.__file__).parent}")
 

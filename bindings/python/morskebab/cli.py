@@ -191,32 +191,44 @@ def guarded(do: Callable[[], int]) -> int:
     try:
         return do()
     except (Misspoken, NotATable, Unsound) as error:
-        print("\n".join(f"morskebab: {line}" for line in str(error).splitlines()), file=sys.stderr)
-        return NOT_UNDERSTOOD
+        return tell(str(error), NOT_UNDERSTOOD)
+    except UnicodeError as error:
+        return tell(f"a file is not of its encoding: {error}", NOT_UNDERSTOOD)
     except LookupError as error:
         if "encoding" not in str(error):
             raise
-        print(f"morskebab: {error}", file=sys.stderr)
-        return NOT_UNDERSTOOD
+        return tell(str(error), NOT_UNDERSTOOD)
     except BrokenPipeError:
-        # nobody reads on: nothing is left to be flushed at the end
-        os.dup2(os.open(os.devnull, os.O_WRONLY), sys.stdout.fileno())
-        return READING_FAILED
+        return leave(READING_FAILED)
     except OSError as error:
-        with contextlib.suppress(OSError):
-            print(f"morskebab: {error.filename or 'writing'}: {error.strerror}", file=sys.stderr)
-        return READING_FAILED
+        tell(f"{error.filename or 'writing failed'}: {error.strerror}", READING_FAILED)
+        return leave(READING_FAILED)
     except KeyboardInterrupt:
-        return 130
+        return leave(130)
+
+
+def tell(said: str, status: int) -> int:
+    with contextlib.suppress(OSError):
+        print("\n".join(f"morskebab: {line}" for line in said.splitlines()), file=sys.stderr)
+    return status
+
+
+def leave(status: int) -> int:
+    """What is still to be written to standard output is dropped, so that the end doesn't fail at it."""
+    with contextlib.suppress(OSError, ValueError):
+        os.dup2(os.open(os.devnull, os.O_WRONLY), sys.stdout.fileno())
+    return status
 
 
 def main(given: list[str] | None = None) -> int:
+    """The command; its exit status."""
+    sys.stderr = sys.stderr or open(os.devnull, "w")  # noqa: SIM115
+    if sys.stdout is None:
+        return tell("standard output is closed", READING_FAILED)
     for stream in (sys.stdout, sys.stderr):
         # what a terminal's encoding hasn't is escaped; a file is UTF-8
-        if stream.isatty():
-            stream.reconfigure(errors="backslashreplace")  # type: ignore[union-attr]
-        else:
-            stream.reconfigure(encoding="utf-8", errors="backslashreplace")  # type: ignore[union-attr]
+        known = {} if stream.isatty() else {"encoding": "utf-8"}
+        stream.reconfigure(errors="backslashreplace", **known)  # type: ignore[union-attr]
 
     def do() -> int:
         words = parser_of().parse_args(given)
@@ -224,7 +236,4 @@ def main(given: list[str] | None = None) -> int:
         sys.stdout.flush()
         return status
 
-    status = guarded(do)
-    with contextlib.suppress(OSError, ValueError):
-        sys.stdout.flush()
-    return status
+    return guarded(do)

@@ -10,9 +10,8 @@ import sys
 from collections.abc import Iterator, Mapping, Sequence
 from typing import BinaryIO, NamedTuple, TextIO
 
-# characters read at a time; the most of a line; the most lines of a row, whose quotes may hold line ends; the most of a text that is shown
-BLOCK = 1 << 20
-LINE = 1 << 20
+# characters read at a time, no more than the most of a line; the most lines of a row, whose quotes may hold line ends; the most of a text that is shown
+BLOCK = LINE = 1 << 20
 SPAN = 200
 SHOWN = 200
 SEPARATORS = ",;\t|"
@@ -20,6 +19,8 @@ MARKS = ((codecs.BOM_UTF8, "utf-8-sig"), (codecs.BOM_UTF32_LE, "utf-32"), (codec
          (codecs.BOM_UTF16_BE, "utf-16"))
 EMPTY: tuple[list[str], ...] = ([], [""])
 UNCLOSED = "unexpected end of data"
+# the line that some spreadsheets put before the header
+SAID = re.compile(r'"?sep=(.)"?\n', re.IGNORECASE)
 UNDECODED = re.compile("[\udc80-\udcff\ufffd]")
 
 
@@ -92,7 +93,9 @@ class Table:
     def _header(self, columns: Mapping[str, str], separators: str) -> list[str]:
         """The first line that isn't empty, by the separator that shows most of the columns."""
         text = self._stream.readline(LINE)
-        while text == "\n":
+        while text == "\n" or SAID.fullmatch(text):
+            said = SAID.fullmatch(text)
+            separators = said[1] if said else separators
             self._line += 1
             text = self._stream.readline(LINE)
         self.read += len(text)
@@ -133,39 +136,47 @@ class Table:
     def blocks(self) -> Iterator[Block]:
         """All rows behind the header."""
         while True:
-            text = self._stream.read(BLOCK)
-            self.read += len(text)
-            held, ended = self._carry + text, not text
+            text = self._read()
+            ended, last = not text, self._carry.rfind("\n") + 1
+            if self._to_its_end(text) + len(self._carry) - last > LINE:
+                # rows that waited for a quote to close are ended by a line that is past every row's length
+                if last:
+                    yield self._block(self._carry[:last], True)
+                fault, text = self._overlong(self._carry[last:], text)
+                self._carry = ""
+                yield Block([], [], [fault])
+            held = self._carry + text
             if ended and held:
                 self.unended = not held.endswith("\n")
             cut = len(held) if ended else held.rfind("\n") + 1
             self._carry = held[cut:]
             if cut:
                 yield self._block(held[:cut], ended)
-            last = self._carry.rfind("\n") + 1
-            if len(self._carry) - last > LINE:
-                if last:
-                    whole, self._carry = self._carry[:last], self._carry[last:]
-                    yield self._block(whole, True)
-                yield Block([], [], [self._overlong()])
             if ended:
                 return
 
-    def _overlong(self) -> Fault:
-        """A line that is past every row's length is read to its end and not kept."""
-        head, length = self._carry[:LINE], len(self._carry)
-        while True:
-            text = self._stream.read(BLOCK)
-            self.read += len(text)
-            end = text.find("\n")
-            length += len(text) if end < 0 else end
-            if end >= 0 or not text:
-                break
-        self._carry, self.unended = text[end + 1 :], not text
-        words = head.split(self._separator)
+    def _read(self) -> str:
+        text = self._stream.read(BLOCK)
+        self.read += len(text)
+        return text
+
+    @staticmethod
+    def _to_its_end(text: str) -> int:
+        """How much of the line that the text begins in it has."""
+        end = text.find("\n")
+        return len(text) if end < 0 else end
+
+    def _overlong(self, head: str, text: str) -> tuple[Fault, str]:
+        """A line that is past every row's length is read to its end and not kept; what is behind it."""
+        words = (head + text)[:LINE].split("\n")[0].split(self._separator)
+        length = len(head) + self._to_its_end(text)
+        while text and "\n" not in text:
+            text = self._read()
+            length += self._to_its_end(text)
+        self.unended = not text
         words[-1] = f"{words[-1][:SHOWN]}..(the line has {length} characters)"
         self._line, line = self._line + 1, self._line
-        return Fault(line, words, f"the line has over {LINE} characters")
+        return Fault(line, words, f"the line has over {LINE} characters"), text[self._to_its_end(text) + 1 :]
 
     def _block(self, text: str, ended: bool) -> Block:
         """The rows of whole lines. Where there are no quotes a field is what stands between two separators, which is quickly found."""
