@@ -8,7 +8,7 @@ from dataclasses import dataclass, field
 from itertools import compress
 
 from . import Book, Refused
-from ._c import PARTNERS, library
+from ._c import PARTNERS, CBook, library
 from .contracts import Contract
 
 # the calls of one batch; the amounts whose worth is kept in mind; the points of a picture
@@ -45,16 +45,16 @@ class Batch:
         self._lent = ((c_bool * CALLS).from_buffer(self.refunds), (c_int64 * CALLS).from_buffer(self.coefficients),
                       (c_uint64 * (CALLS * PARTNERS)).from_buffer(self.payouts), (c_uint8 * CALLS).from_buffer(self.numbers))
 
-    def run(self, book: Book, refunds: list[bool], coefficients: list[int]) -> Book:
+    def run(self, book: CBook, refunds: list[bool], coefficients: list[int]) -> CBook:
         """The book after the calls, up to CALLS of them; their payouts and numbers are in the lists."""
         calls = len(refunds)
         self.refunds[:calls] = bytes(refunds)
         memoryview(self.coefficients)[:calls] = array("q", coefficients)
         lent = self._lent
-        answer = library.mkb_run(book._c(), lent[0], calls, lent[1], calls, lent[2], PARTNERS * CALLS, lent[3], CALLS)
+        answer = library.mkb_run(book, lent[0], calls, lent[1], calls, lent[2], PARTNERS * CALLS, lent[3], CALLS)
         if answer.refusal:
             raise Refused(answer.refusal, answer.blamed)
-        return Book._of(answer.book)
+        return answer.book
 
 
 @dataclass
@@ -106,7 +106,8 @@ class Ledger:
 
     def __init__(self, contract: Contract, amounts: Amounts, pictured: bool) -> None:
         self.contract, self.amounts, self.code = contract, amounts, contract.code
-        self.book = Book.open(contract.currency, contract.weights(0))
+        # as C has it, which is how it goes from batch to batch
+        self._book: CBook = Book.open(contract.currency, contract.weights(0))._c()
         self.parts: list[Part] = []
         self.points: list[tuple[str, list[float]]] = []
         # the movements that wait, and where each stands among the rows of the block that is read
@@ -116,6 +117,11 @@ class Ledger:
         self.day = self.first_day = self.last_day = ""
         self._pictured, self._marks, self._behind = pictured, [], [0.0] * len(contract.partners)
         self._begin(0)
+
+    @property
+    def book(self) -> Book:
+        """The book as it is, without the movements that wait."""
+        return Book._of(self._book)
 
     def _begin(self, card: int) -> None:
         cards = self.contract.cards
@@ -132,17 +138,17 @@ class Ledger:
         while day >= self.until:
             refused += self.flush(batch)
             self._end()
-            self.book = self.book.new_card(self.contract.weights(len(self.parts)))
+            self._book = self.book.new_card(self.contract.weights(len(self.parts)))._c()
             self._begin(len(self.parts))
         return refused
 
     def flush(self, batch: Batch) -> list[tuple[int, int]]:
         """Hands what waits to the library, in its order. Where the refused rows stand among the block's, each with its number."""
         refused: list[tuple[int, int]] = []
-        before, moves = self.book.net, []
+        before, moves = self._book.net, []
         for start in range(0, len(self.at), CALLS):
             refunds, coefficients = self.refunds[start : start + CALLS], self.coefficients[start : start + CALLS]
-            self.book = batch.run(self.book, refunds, coefficients)
+            self._book = batch.run(self._book, refunds, coefficients)
             numbers = batch.numbers[: len(refunds)]
             if any(numbers):
                 refused += [(self.at[start + call], number) for call, number in enumerate(numbers) if number]
@@ -179,8 +185,8 @@ class Ledger:
         self._marks.clear()
 
     def _point(self, day: str, net: int) -> None:
-        weights, book = self.part.weights, self.book
-        totals = Book(book.currency, book.weights, net).running_totals()
+        weights = self.part.weights
+        totals = Book(self.contract.currency, tuple(weights), net).running_totals()
         whole = sum(weights)
         self.points.append((day, [behind + (total * whole - net * weight) / whole for behind, total, weight in zip(self._behind, totals, weights)]))
         if len(self.points) > POINTS:
@@ -189,7 +195,7 @@ class Ledger:
     def _end(self) -> None:
         """The card's last figures."""
         part = self.part
-        part.net, part.totals = self.book.net, self.book.running_totals()
+        part.net, part.totals = self._book.net, self.book.running_totals()
         whole = sum(part.weights)
         self._behind = [behind + (total * whole - part.net * weight) / whole for behind, total, weight in zip(self._behind, part.totals, part.weights)]
         self.parts.append(part)
@@ -198,6 +204,6 @@ class Ledger:
         """The quarter is over: what `flush` says of the last rows, and the last card's figures."""
         refused = self.flush(batch)
         if self._pictured and self.day:
-            self._point(self.day, self.book.net)
+            self._point(self.day, self._book.net)
         self._end()
         return refused

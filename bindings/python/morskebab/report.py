@@ -113,7 +113,7 @@ def counted(counts: Counts, rows: str = " rows") -> str:
 
 def width(text: str) -> int:
     """The places that a text takes on a screen."""
-    return sum((unicodedata.east_asian_width(c) in "WF") + (unicodedata.combining(c) == 0) for c in text)
+    return len(text) if text.isascii() else sum((unicodedata.east_asian_width(c) in "WF") + (unicodedata.combining(c) == 0) for c in text)
 
 
 def laid_out(rows: list[list[str]]) -> Iterator[str]:

@@ -223,7 +223,7 @@ def worth(ledger: Ledger, refund: bool, code: str, text: str) -> tuple[int, int,
     number = currency_of(code)
     try:
         amount = Amount.parse(255 if number is None else number, text if len(text) < KEPT else text[:KEPT])
-        if (amount.currency, amount.scale) == (ledger.book.currency, ledger.contract.digits) and amount.coefficient >= 0:
+        if (amount.currency, amount.scale) == (ledger.contract.currency, ledger.contract.digits) and amount.coefficient >= 0:
             return 0, amount.coefficient, ""
         # any other currency, scale or sign is refused by the book, whatever its net total
         (ledger.book.refund if refund else ledger.book.post)(amount)
