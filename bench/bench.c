@@ -131,6 +131,26 @@ static void runs(void)
         }
 }
 
+/* conversion, interest, tax and sharing, at amounts of a size */
+static void amount_rows(const char *converted, const char *size)
+{
+    char name[80];
+    snprintf(name, sizeof name, "convert, old to old, %s", converted);
+    row(name, AMOUNTS, convert_agrees, convert_ours, convert_plain);
+    snprintf(name, sizeof name, "interest, %s", size);
+    row(name, AMOUNTS, interest_agrees, interest_ours, interest_plain);
+    for (int gross = 0; gross < 2; gross++) {
+        set_from_gross(gross);
+        snprintf(name, sizeof name, "tax from %s, %s", gross ? "gross" : "net", size);
+        row(name, AMOUNTS, tax_agrees, tax_ours, tax_plain);
+    }
+    for (size_t count = 16; count <= 64; count += 48) {
+        set_count(count);
+        snprintf(name, sizeof name, "share %zu, %s", count, size);
+        row(name, LISTS, share_agrees, share_ours, share_plain);
+    }
+}
+
 int main(int argc, char **argv)
 {
     draw_inputs();
@@ -144,14 +164,13 @@ int main(int argc, char **argv)
     set_products(1);
     row("round a product of two words, mixed modes", PAIRS, round_agrees, round_ours, round_plain);
     set_products(0);
-    row("convert, old to old", AMOUNTS, convert_agrees, convert_ours, convert_plain);
-    row("interest", AMOUNTS, interest_agrees, interest_ours, interest_plain);
+    draw_amounts(UINT64_C(1000000000), OLD_L);
+    amount_rows("to 10^9", "to 10^11");
+    draw_amounts(PLAIN_L, PLAIN_L);
+    amount_rows("to 10^15", "to 10^15");
     row("net for a gross, over our tax from gross", LISTS, net_for_agrees, net_for_ours, tax_gross_ours);
     row("compound, 120 periods", LISTS, compound_agrees, compound_ours, compound_plain);
-    set_count(16);
-    row("share 16", LISTS, share_agrees, share_ours, share_plain);
     set_count(64);
-    row("share 64", LISTS, share_agrees, share_ours, share_plain);
     set_one_by_one(0);
     row("vouchers, 10,000 over 64", LISTS, vouchers_agree, vouchers_ours, vouchers_plain);
     set_one_by_one(1);

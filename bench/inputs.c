@@ -4,6 +4,7 @@
 pair pairs[PAIRS], products[PAIRS];
 exchange exchanges[AMOUNTS];
 loan loans[AMOUNTS];
+price prices[AMOUNTS];
 list lists[LISTS];
 mkb_amount postings[POSTINGS];
 bool refunds[CALLS];
@@ -57,17 +58,21 @@ static void draw_products(void)
     }
 }
 
-static void draw_exchanges(void)
+static void draw_exchanges(uint64_t largest)
 {
     for (int i = 0; i < AMOUNTS; i++) {
         uint8_t from = (uint8_t)(1 + below(20)), to = (uint8_t)(1 + below(19));
         to += to >= from;
-        exchanges[i].a = (mkb_amount){.currency = from, .scale = mkb_currency(from).digits, .coefficient = signed_below(1000000000)};
+        mkb_amount a = {.currency = from, .scale = mkb_currency(from).digits, .coefficient = signed_below(largest)};
+        int refusal;
+        while (plain_convert(from, (uint8_t)a.scale, a.coefficient, to, &refusal), refusal)
+            a.coefficient /= 10;
+        exchanges[i].a = a;
         exchanges[i].to = to;
     }
 }
 
-static void draw_loans(void)
+static void draw_loans(uint64_t largest)
 {
     for (int i = 0; i < AMOUNTS; i++) {
         uint16_t year = (uint16_t)(1900 + below(299));
@@ -76,22 +81,40 @@ static void draw_loans(void)
         mkb_date end = {(uint16_t)(later > 12 ? year + 1 : year), (uint8_t)(later > 12 ? later - 12 : later), (uint8_t)(start.day + below(3))};
         if (!mkb_date_exists(end))
             end.day = start.day;
-        loans[i] = (loan){.principal = {0, 2, signed_below(PLAIN_L)}, .rate = (uint32_t)below(10001), .basis = (uint8_t)below(4),
+        loans[i] = (loan){.principal = {0, 2, signed_below(largest)}, .rate = (uint32_t)below(10001), .basis = (uint8_t)below(4),
                           .mode = (uint8_t)below(7), .start = start, .end = end};
     }
+}
+
+static void draw_lists(uint64_t largest)
+{
+    for (int i = 0; i < LISTS; i++) {
+        lists[i].a = (mkb_amount){.currency = 0, .scale = 2, .coefficient = signed_below(largest)};
+        for (int j = 0; j < 64; j++)
+            lists[i].weights[j] = 1 + (uint32_t)below(15000);
+    }
+}
+
+/* a gross is at most twice its net */
+static void draw_prices(uint64_t largest)
+{
+    for (int i = 0; i < AMOUNTS; i++)
+        prices[i] = (price){.a = {0, 2, signed_below(largest / 2)}, .rate = (uint32_t)below(1000001), .mode = (uint8_t)below(7)};
+}
+
+void draw_amounts(uint64_t conversion, uint64_t largest)
+{
+    draw_exchanges(conversion);
+    draw_loans(largest);
+    draw_lists(largest);
+    draw_prices(largest);
 }
 
 void draw_inputs(void)
 {
     draw_pairs();
     draw_products();
-    draw_exchanges();
-    draw_loans();
-    for (int i = 0; i < LISTS; i++) {
-        lists[i].a = (mkb_amount){.currency = 0, .scale = 2, .coefficient = signed_below(PLAIN_L)};
-        for (int j = 0; j < 64; j++)
-            lists[i].weights[j] = 1 + (uint32_t)below(15000);
-    }
+    draw_amounts(PLAIN_L, PLAIN_L);
     for (int i = 0; i < POSTINGS; i++)
         postings[i] = (mkb_amount){.currency = 0, .scale = 2, .coefficient = (int64_t)below(PLAIN_L / POSTINGS)};
     for (int i = 0; i < CALLS; i++) {

@@ -4,6 +4,8 @@
 #include "../bindings/c/morskebab.h"
 #include "plain.h"
 
+/* document 01's L */
+#define OLD_L UINT64_C(99999999999)
 #define SEED UINT64_C(19990101)
 #define PAIRS 4096
 #define AMOUNTS 1024
@@ -31,6 +33,12 @@ typedef struct {
 
 typedef struct {
     mkb_amount a;
+    uint32_t rate;
+    uint8_t mode;
+} price;
+
+typedef struct {
+    mkb_amount a;
     uint32_t weights[64];
 } list;
 
@@ -38,6 +46,7 @@ typedef struct {
 extern pair pairs[PAIRS], products[PAIRS];
 extern exchange exchanges[AMOUNTS];
 extern loan loans[AMOUNTS];
+extern price prices[AMOUNTS];
 extern list lists[LISTS];
 extern mkb_amount postings[POSTINGS];
 /* a run's movements: one in four is a refund */
@@ -45,6 +54,9 @@ extern bool refunds[CALLS];
 extern int64_t coefficients[CALLS];
 
 void draw_inputs(void);
+
+/* the amounts of conversions, loans, prices and sharings, drawn anew up to a largest one; conversions and prices such that they are accepted */
+void draw_amounts(uint64_t conversion, uint64_t largest);
 
 /* the weights of a book with sum W: at random, or one of 1, one that has nine tenths and more, and what is left between the others */
 void draw_weights(uint32_t weights[16], uint32_t W, int partners, int skewed);

@@ -86,6 +86,18 @@ int64_t plain_convert(uint8_t from, uint8_t scale, int64_t n, uint8_t to, int *r
     return negative ? -(int64_t)r : (int64_t)r;
 }
 
+int plain_tax(int from_gross, uint8_t currency, uint8_t scale, int64_t n, uint32_t rate, uint8_t mode, int64_t parts[3])
+{
+    int refusal = mode > 6 ? 1 : scale > 6 ? 2 : magnitude(n) > PLAIN_L ? 3 : currency > 20 ? 4 : rate > 1000000 ? 6 : 0;
+    if (refusal)
+        return refusal;
+    int64_t tax = plain_round(mode, n, rate, 1000000u + (from_gross ? rate : 0u), &refusal);
+    parts[0] = from_gross ? n - tax : n;
+    parts[1] = tax;
+    parts[2] = parts[0] + tax;
+    return magnitude(parts[2]) > PLAIN_L ? 13 : 0;
+}
+
 static int leap(unsigned y) { return y % 400 == 0 || (y % 4 == 0 && y % 100 != 0); }
 
 static const uint16_t before[13] = {0, 0, 31, 59, 90, 120, 151, 181, 212, 243, 273, 304, 334};

@@ -13,6 +13,9 @@ int64_t plain_round(uint8_t mode, int64_t a, int64_t b, uint64_t d, int *refusal
 /* an amount in currency `from` at its own digits to currency `to` */
 int64_t plain_convert(uint8_t from, uint8_t scale, int64_t n, uint8_t to, int *refusal);
 
+/* net, tax and gross of a price, from the net or from the gross */
+int plain_tax(int from_gross, uint8_t currency, uint8_t scale, int64_t n, uint32_t rate, uint8_t mode, int64_t parts[3]);
+
 typedef struct { uint16_t year; uint8_t month, day; } plain_date;
 int64_t plain_interest(int64_t principal, uint32_t rate, uint8_t basis, plain_date start, plain_date end, uint8_t mode, int *refusal);
 

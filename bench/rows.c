@@ -146,6 +146,44 @@ int compound_agrees(void)
     return ok;
 }
 
+static int from_gross;
+
+void set_from_gross(int on) { from_gross = on; }
+
+static mkb_split tax_of(const price *p) { return from_gross ? mkb_tax_from_gross(p->a, p->rate, p->mode) : mkb_tax_from_net(p->a, p->rate, p->mode); }
+
+static int tax_by_plain(const price *p, int64_t parts[3])
+{
+    return plain_tax(from_gross, (uint8_t)p->a.currency, (uint8_t)p->a.scale, p->a.coefficient, p->rate, p->mode, parts);
+}
+
+void tax_ours(void)
+{
+    for (int i = 0; i < AMOUNTS; i++) {
+        mkb_split s = tax_of(&prices[i]);
+        sink += (uint64_t)s.net.coefficient + (uint64_t)s.tax.coefficient + (uint64_t)s.gross.coefficient;
+    }
+}
+
+void tax_plain(void)
+{
+    int64_t parts[3];
+    for (int i = 0; i < AMOUNTS; i++)
+        sink += (uint64_t)tax_by_plain(&prices[i], parts) + (uint64_t)parts[0] + (uint64_t)parts[1] + (uint64_t)parts[2];
+}
+
+int tax_agrees(void)
+{
+    int ok = 1;
+    int64_t parts[3] = {0, 0, 0};
+    for (int i = 0; i < AMOUNTS; i++) {
+        mkb_split s = tax_of(&prices[i]);
+        ok &= tax_by_plain(&prices[i], parts) == s.refusal && !s.refusal;
+        ok &= s.net.coefficient == parts[0] && s.tax.coefficient == parts[1] && s.gross.coefficient == parts[2];
+    }
+    return ok;
+}
+
 void net_for_ours(void)
 {
     for (int i = 0; i < LISTS; i++)

@@ -20,6 +20,10 @@ void set_book(uint32_t W, int partners, int skewed, int unit);
 
 void round_ours(void), round_plain(void), convert_ours(void), convert_plain(void), interest_ours(void), interest_plain(void);
 void compound_ours(void), compound_plain(void);
+/* prices from their net, or from their gross */
+void set_from_gross(int on);
+void tax_ours(void), tax_plain(void);
+int tax_agrees(void);
 /* the net for a gross, against the library's own tax from gross */
 void net_for_ours(void), tax_gross_ours(void);
 void share_ours(void), share_plain(void), vouchers_ours(void), vouchers_plain(void), post_ours(void), post_plain(void);
