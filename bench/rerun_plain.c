@@ -1,6 +1,6 @@
 /* rerun in plain C, for the ratio of the two: the same lines read, the same refusals, the same sums of payouts and the same report. The
    totals of one cycle stand in a table, a row of sixteen 16-bit numbers for each net total below W. It takes
-   lines without a byte 0, with numbers that an int64_t holds. */
+   lines without a byte 0, in numbers that an int64_t holds, or in codes and texts. */
 #include <inttypes.h>
 #include <stdint.h>
 #include <stdio.h>
@@ -12,12 +12,17 @@
 #define WEIGHT_SUM 10000
 #define LONGEST 4000
 
-static const uint8_t own_digits[21] = {2, 0, 2, 0, 2, 2, 0, 0, 2, 2, 0, 2, 0, 2, 2, 2, 2, 2, 2, 2, 2};
+#define REFUSALS 18
+#define CURRENCIES 21
+
+static const char codes[CURRENCIES][4] = {"EUR", "BEF", "DEM", "ESP", "FRF", "IEP", "ITL", "LUF", "NLG", "ATS", "PTE",
+                                          "FIM", "GRD", "SIT", "CYP", "MTL", "SKK", "EEK", "LVL", "LTL", "HRK"};
+static const uint8_t own_digits[CURRENCIES] = {2, 0, 2, 0, 2, 2, 0, 0, 2, 2, 0, 2, 0, 2, 2, 2, 2, 2, 2, 2, 2};
 
 /* the current book; `refused` is NONE before any opening, ASTRAY after one that is not understood */
 enum { NONE = -1, ASTRAY = -2 };
 static struct {
-    int refused;
+    int refused, in_texts;
     int64_t currency, net;
     int count;
     uint64_t weights[PARTNERS], sum;
@@ -26,9 +31,9 @@ static uint16_t cycle[WEIGHT_SUM][PARTNERS];
 static uint64_t totals[PARTNERS];
 
 /* what is counted of it: place 0 of `times` has what was accepted; postings are side 0, refunds side 1 */
-static uint64_t times[14], unknown, sums[2], payouts[2][PARTNERS];
+static uint64_t times[REFUSALS], unknown, sums[2], payouts[2][PARTNERS];
 /* the line that is read, and the first line of each number and of what is not understood */
-static uint64_t lines, first[14], first_unknown;
+static uint64_t lines, first[REFUSALS], first_unknown;
 
 /* the numbers of a line behind its word; how many they are, -1 where a word is none */
 static int numbers(const char *p, int64_t *out, int room)
@@ -53,6 +58,59 @@ static int numbers(const char *p, int64_t *out, int room)
             out[count] = negative ? -(int64_t)sum : (int64_t)sum;
         count++;
     }
+}
+
+/* the currency number of a code, 255 where the table has none */
+static int64_t currency_of(const char *word, size_t length)
+{
+    for (int i = 0; length == 3 && i < CURRENCIES; i++)
+        if (memcmp(word, codes[i], 3) == 0)
+            return i;
+    return 255;
+}
+
+static int is_code(const char *word) { return *word >= 'A' && *word <= 'Z'; }
+
+/* the coefficient and the scale of a text; 0, or 14 or 13 */
+static int text(const char *s, size_t length, int64_t *scale, int64_t *coefficient)
+{
+    uint64_t m = 0;
+    int negative = s[0] == '-', over = 0;
+    size_t i = (size_t)negative, begin = i, point = length;
+    if (length > 20)
+        return 14;
+    for (; i < length; i++) {
+        if (s[i] == '.' && point == length)
+            point = i;
+        else if (s[i] < '0' || s[i] > '9')
+            return 14;
+        else if ((m = m * 10 + (uint64_t)(s[i] - '0')) > (uint64_t)L)
+            over = 1, m = (uint64_t)L;
+    }
+    if (point == begin || (point - begin > 1 && s[begin] == '0') || point + 1 == length || (point < length && length - point > 7))
+        return 14;
+    if (negative && m == 0)
+        return 14;
+    *scale = point < length ? (int64_t)(length - point - 1) : 0;
+    *coefficient = negative ? -(int64_t)m : (int64_t)m;
+    return over ? 13 : 0;
+}
+
+/* an amount behind a word: three numbers, or a code and a text, whose refusal is *number; whether it is one */
+static int amount(const char *p, int64_t out[3], int *number)
+{
+    *number = 0;
+    p += strspn(p, " ");
+    if (!is_code(p))
+        return numbers(p, out, 3) == 3;
+    size_t length = strcspn(p, " ");
+    out[0] = currency_of(p, length);
+    p += length + strspn(p + length, " ");
+    length = strcspn(p, " ");
+    if (length == 0 || p[length + strspn(p + length, " ")] != '\0')
+        return 0;
+    *number = out[0] == 255 ? 4 : text(p, length, &out[1], &out[2]);
+    return 1;
 }
 
 /* the totals of every net total below W, unit by unit */
@@ -121,15 +179,16 @@ static int refusal(int side, int64_t currency, int64_t scale, int64_t n)
     return 0;
 }
 
-static void call(int side, const int64_t *amount)
+static void call(int side, const int64_t *given, int number)
 {
-    int number = refusal(side, amount[0], amount[1], amount[2]);
+    if (!number)
+        number = refusal(side, given[0], given[1], given[2]);
     if (!times[number]++)
         first[number] = lines;
     if (number)
         return;
-    sums[side] += (uint64_t)amount[2];
-    book.net += side ? -amount[2] : amount[2];
+    sums[side] += (uint64_t)given[2];
+    book.net += side ? -given[2] : given[2];
     uint64_t whole = (uint64_t)book.net / book.sum;
     const uint16_t *row = cycle[(uint64_t)book.net % book.sum];
     for (int i = 0; i < PARTNERS; i++) {
@@ -139,6 +198,16 @@ static void call(int side, const int64_t *amount)
     }
 }
 
+/* a number of units behind its name, as a text at the book's digits where it was opened by a code */
+static void put(const char *name, uint64_t units)
+{
+    int digits = book.in_texts ? own_digits[book.currency] : 0;
+    if (digits)
+        printf("%s%" PRIu64 ".%02" PRIu64, name, units / 100, units % 100);
+    else
+        printf("%s%" PRIu64, name, units);
+}
+
 static void put_partners(void)
 {
     int failing = -1;
@@ -146,8 +215,9 @@ static void put_partners(void)
     for (int i = 0; i < book.count; i++) {
         uint64_t n = (uint64_t)book.net * book.weights[i], paid = payouts[0][i], taken = payouts[1][i], total = totals[i];
         uint64_t least = n / book.sum, most = (n + book.sum - 1) / book.sum;
-        printf("partner %d weight %" PRIu64 " paid %" PRIu64 " taken %" PRIu64 " total %" PRIu64 " least %" PRIu64 " most %" PRIu64 "\n",
-            i, book.weights[i], paid, taken, total, least, most);
+        printf("partner %d weight %" PRIu64, i, book.weights[i]);
+        put(" paid ", paid), put(" taken ", taken), put(" total ", total), put(" least ", least), put(" most ", most);
+        putchar('\n');
         if (failing < 0 && (paid - taken != total || total < least || total > most))
             failing = i;
         added += total;
@@ -163,7 +233,7 @@ static void put_partners(void)
 static void report(void)
 {
     uint64_t refused = 0;
-    for (int i = 1; i < 14; i++)
+    for (int i = 1; i < REFUSALS; i++)
         refused += times[i];
     if (book.refused == NONE && times[0] + refused + unknown == 0)
         return;
@@ -174,19 +244,23 @@ static void report(void)
     else if (book.refused)
         printf("book refused %d", book.refused);
     else {
-        printf("book %" PRId64 " weights", book.currency);
+        if (book.in_texts)
+            printf("book %s weights", codes[book.currency]);
+        else
+            printf("book %" PRId64 " weights", book.currency);
         for (int i = 0; i < book.count; i++)
             printf(" %" PRIu64, book.weights[i]);
     }
     printf("\nlines %" PRIu64 " accepted %" PRIu64 " refused %" PRIu64 " not understood\n", times[0], refused, unknown);
     if (unknown)
         printf("not understood first %" PRIu64 "\n", first_unknown);
-    for (int i = 1; i < 14; i++)
+    for (int i = 1; i < REFUSALS; i++)
         if (times[i])
             printf("refused %d times %" PRIu64 " first %" PRIu64 "\n", i, times[i], first[i]);
     if (book.refused)
         return;
-    printf("posted %" PRIu64 " refunded %" PRIu64 " net %" PRId64 "\n", sums[0], sums[1], book.net);
+    put("posted ", sums[0]), put(" refunded ", sums[1]), put(" net ", (uint64_t)book.net);
+    putchar('\n');
     put_partners();
 }
 
@@ -196,26 +270,44 @@ static void not_understood(void)
         first_unknown = lines;
 }
 
-static void answer(char *line)
+/* a currency number, or a code, and the weights */
+static void open_line(const char *p)
 {
     static int64_t given[2000];
+    int in_texts, count;
+    p += strspn(p, " ");
+    in_texts = is_code(p);
+    if (in_texts) {
+        size_t length = strcspn(p, " ");
+        given[0] = currency_of(p, length);
+        count = numbers(p + length, given + 1, 1999);
+        count += count >= 0;
+    } else
+        count = numbers(p, given, 2000);
+    report();
+    if (count < 1)
+        given[0] = -1;
+    open_book(given, count);
+    book.in_texts = in_texts;
+    if (count < 1) {
+        book.refused = ASTRAY;
+        not_understood();
+    }
+}
+
+static void answer(char *line)
+{
+    int64_t given[3];
     char *word = line + strspn(line, " ");
     size_t length = strcspn(word, " ");
-    int count = numbers(word + length, given, 2000);
-    if (length == 4 && memcmp(word, "post", 4) == 0 && count == 3)
-        call(0, given);
-    else if (length == 6 && memcmp(word, "refund", 6) == 0 && count == 3)
-        call(1, given);
-    else if (length == 4 && memcmp(word, "open", 4) == 0) {
-        report();
-        if (count < 1)
-            given[0] = -1;
-        open_book(given, count);
-        if (count < 1) {
-            book.refused = ASTRAY;
-            not_understood();
-        }
-    } else
+    int number;
+    if (length == 4 && memcmp(word, "post", 4) == 0 && amount(word + length, given, &number))
+        call(0, given, number);
+    else if (length == 6 && memcmp(word, "refund", 6) == 0 && amount(word + length, given, &number))
+        call(1, given, number);
+    else if (length == 4 && memcmp(word, "open", 4) == 0)
+        open_line(word + length);
+    else
         not_understood();
 }
 
