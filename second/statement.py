@@ -1,5 +1,7 @@
 """statement FILE OUT: writes the payouts of a quarter's file to OUT, as statements for partners."""
 
+import os
+
 from asks import landed
 from book import ALL_ZERO_BOOK, new_card, open_book
 from command import (
@@ -84,22 +86,34 @@ def write_statements(stream, output):
     return READING_OR_WRITING_FAILED if reading.failed else ALL_WELL
 
 
-def statement(arguments):
-    """Gives the status. An OUT that exists is left alone, and none is made for a FILE that
-    can't be opened."""
-    if not landed(3) or len(arguments) != 2:
-        complain("two arguments: the file to read, and a file to write that does not exist")
-        return COMMAND_NOT_UNDERSTOOD
-    file, out = arguments
-    stream = opened([file])
-    if isinstance(stream, Unreadable):
-        return READING_OR_WRITING_FAILED
+def status_of_writing(stream, output, out):
     try:
-        with open(out, "xb") as output:
+        with output:
             return write_statements(stream, output)
     except OSError as error:
         complain(f"{out}: {error.strerror}")
         return READING_OR_WRITING_FAILED
+
+
+def statement(arguments):
+    """Gives the status. An OUT that exists is left alone, none is made for a FILE that can't be
+    opened, and none is left where reading or writing failed."""
+    if len(arguments) != 2:
+        complain("two arguments: the file to read, and a file to write that does not exist")
+        return COMMAND_NOT_UNDERSTOOD
+    file, out = arguments
+    stream = opened([] if file == "-" else [file])
+    if isinstance(stream, Unreadable):
+        return READING_OR_WRITING_FAILED
+    try:
+        output = open(out, "xb")
+    except OSError as error:
+        complain(f"{out}: {error.strerror}")
+        return READING_OR_WRITING_FAILED
+    status = status_of_writing(stream, output, out)
+    if status == READING_OR_WRITING_FAILED:
+        os.unlink(out)
+    return status
 
 
 if __name__ == "__main__":

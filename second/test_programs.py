@@ -216,7 +216,11 @@ def commands_of_statement():
         same(ran("statement", quarter, out), (0, b""))
         same(out.read_bytes(), file_of((0, [(0, 0, 1)])))
         no_room = {"before": "ulimit -f 0"}
-        same(ran("statement", quarter, pathlib.Path(folder) / "full", **no_room), (3, b""))
+        full = pathlib.Path(folder) / "full"
+        same(ran("statement", quarter, full, **no_room), (3, b""))
+        same(ran("statement", "-", full, before="exec <&-"), (3, b""))
+        same(ran("statement", "/proc/self/mem", full), (3, b""))
+        holds(not full.exists())
         quarter.write_bytes(b"")
         same(ran("statement", quarter, out), (3, b""))
         same(ran("statement", quarter, quarter), (3, b""))
@@ -244,12 +248,6 @@ def commands_of_view():
             same(ran("view", file.name, output=full)[0], 3)
 
 
-def commands_before_their_asks():
-    for ask, program in ((3, "statement"), (11, "view")):
-        if not landed(ask):
-            same(ran(program, *["/no/such/file"] * (2 if ask == 3 else 1)), (2, b""))
-
-
 CHECKS = (
     ({3}, statements_of_books),
     ({3}, statements_of_4000_records),
@@ -262,5 +260,4 @@ CHECKS = (
     ({11}, memory_of_views),
     ({3}, commands_of_statement),
     ({11}, commands_of_view),
-    (set(), commands_before_their_asks),
 )

@@ -76,6 +76,7 @@ pub use outs::make_room;
 pub use outs::put_named;
 pub use outs::write_out;
 pub use starts::end_with;
+pub use starts::open_first;
 pub use starts::open_source;
 pub use verbs::form_of;
 pub use verbs::takes;

@@ -3,6 +3,7 @@
 use crate::FAILED;
 use crate::MISUSED;
 use crate::Source;
+use check::same;
 use libc::STDERR_FILENO;
 use libc::STDIN_FILENO;
 ghost use mathlib.Core.Path.{_≡_};
@@ -11,6 +12,7 @@ ghost use Rattle.console.specs.Sources.{endOf};
 
 const STATUS_FILENO: i32 = 3;
 
+// The file that the first argument names; `-` is standard input.
 fn open_file() -> Source
     ensures { λ r. ⌜ (2 ≤ endOf r) × (endOf r ≤ 3) ⌝ }
 {
@@ -20,6 +22,9 @@ fn open_file() -> Source
         os::fail(b"path");
         return Source::Nowhere(FAILED);
     }
+    if same(&path[..length], b"-") {
+        return Source::From(STDIN_FILENO);
+    }
     let fd = os::open_read(&path[..length]);
     if fd < 0 {
         os::fail(&path[..length]);
@@ -28,18 +33,26 @@ fn open_file() -> Source
     Source::From(fd)
 }
 
+// What a program reads that has so many words in its command, its own name among them: with any other number of them it ends with status 2,
+// and says how it is used.
+pub fn open_first(count: usize, usage: &[u8]) -> Source
+    ensures { λ r. ⌜ (2 ≤ endOf r) × (endOf r ≤ 3) ⌝ }
+{
+    if os::arg_count() == count {
+        return open_file();
+    }
+    io::write_all(STDERR_FILENO, usage);
+    Source::Nowhere(MISUSED)
+}
+
 // What the program reads; where there is nothing to read, it ends with status 2 or 3.
 pub fn open_source() -> Source
     ensures { λ r. ⌜ (2 ≤ endOf r) × (endOf r ≤ 3) ⌝ }
 {
-    match os::arg_count() {
-        0 | 1 => Source::From(STDIN_FILENO),
-        2 => open_file(),
-        _ => {
-            io::write_all(STDERR_FILENO, b"one argument at most: the file to read\n");
-            Source::Nowhere(MISUSED)
-        },
+    if os::arg_count() < 2 {
+        return Source::From(STDIN_FILENO);
     }
+    open_first(2, b"one argument at most: the file to read\n")
 }
 
 // Writes the status, and answers its digit. That the descriptor is closed, or is the file that was read, is no error.
