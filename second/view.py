@@ -79,10 +79,10 @@ def write_views(file, output):
 
 
 def view(arguments):
-    if not landed(11) or len(arguments) != 1:
+    if len(arguments) != 1:
         complain("one argument: the file to walk")
         return COMMAND_NOT_UNDERSTOOD
-    return status_of(write_views, arguments)
+    return status_of(write_views, [] if arguments == ["-"] else arguments)
 
 
 if __name__ == "__main__":
