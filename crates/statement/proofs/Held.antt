@@ -80,7 +80,7 @@ module _ (reasons : Bool) (bytes : List ℕ) (first count : ℕ) (sum : ℤ) (e 
       ∙ length-append (e .front ++ joined pieces count) tail
       ∙ omega (arith, records-long count, length-trailer width count total (versionOf reasons))
 
-  place-is : trailerPlace bytes ≡ first + width * count
+  pub place-is : trailerPlace bytes ≡ first + width * count
   place-is = omega (arith, bytes-long)
 
   -- the trailer's numbers
@@ -98,7 +98,7 @@ module _ (reasons : Bool) (bytes : List ℕ) (first count : ℕ) (sum : ℤ) (e 
   trailer-is : trailerIn bytes ≡ trailerOf reasons count total
   trailer-is = ap (trailerAt bytes) place-is ∙ trailer-read reasons bytes (first + width * count) count total trailer-reads
 
-  first-is : firstOf (trailerPlace bytes) (trailerIn bytes) ≡ first
+  pub first-is : firstOf (trailerPlace bytes) (trailerIn bytes) ≡ first
   first-is = ap₂ (λ (k : ℕ) (t : Trailer). k - t .distance) place-is trailer-is ∙ omega arith
 
   -- the numbers of a record
@@ -151,7 +151,7 @@ module _ (reasons : Bool) (bytes : List ℕ) (first count : ℕ) (sum : ℤ) (e 
         blank = reads .1 .1 .1 .1 .1 .0;
       }
 
-  file : File reasons bytes (trailerPlace bytes) (trailerIn bytes)
+  pub file : File reasons bytes (trailerPlace bytes) (trailerIn bytes)
   file =
       let t = trailer-is in
       record {
@@ -181,7 +181,10 @@ module _ (reasons : Bool) (bytes : List ℕ) (first count : ℕ) (sum : ℤ) (e 
       let firsts = first-is in
       cc
 
-  -- the version and the zeros that the last bytes hold
+  -- the count, the version and the zeros that the last bytes hold
+  pub count-is : trailerIn bytes .count ≡ count
+  count-is = ap (λ (k : Trailer). k .count) trailer-is
+
   pub version-is : trailerIn bytes .version ≡ versionOf reasons
   version-is = ap (λ (k : Trailer). k .version) trailer-is
 

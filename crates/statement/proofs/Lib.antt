@@ -21,3 +21,6 @@ pub mod ReadWritten
 pub mod Unique
 pub mod ExactlyWhen
 pub mod Lines
+pub mod Different
+mod Changed
+pub mod Damage
