@@ -360,6 +360,7 @@ int main(void)
     statements();
     texts();
     views();
+    reasons();
     runs();
     if (failed) {
         printf("c face: %d cases passed, %d failed\n", passed, failed);

@@ -27,3 +27,7 @@ SIZE(mkb_end, 16); AT(mkb_end, blamed, 1); AT(mkb_end, end, 8);
 SIZE(mkb_statement, 32); AT(mkb_statement, blamed, 1); AT(mkb_statement, first, 8); AT(mkb_statement, count, 16); AT(mkb_statement, sum, 24);
 SIZE(mkb_first, 16); AT(mkb_first, blamed, 1); AT(mkb_first, first, 8);
 SIZE(mkb_step, 24); AT(mkb_step, next, 0); AT(mkb_step, ended, 8); AT(mkb_step, place, 10); AT(mkb_step, currency, 12); AT(mkb_step, coefficient, 16);
+SIZE(mkb_any_statement, 32); AT(mkb_any_statement, blamed, 1); AT(mkb_any_statement, version, 2); AT(mkb_any_statement, first, 8);
+AT(mkb_any_statement, count, 16); AT(mkb_any_statement, sum, 24);
+SIZE(mkb_any_step, 24); AT(mkb_any_step, next, 0); AT(mkb_any_step, ended, 8); AT(mkb_any_step, place, 10); AT(mkb_any_step, currency, 12);
+AT(mkb_any_step, reason, 14); AT(mkb_any_step, coefficient, 16);

@@ -36,7 +36,7 @@ enum mkb_refusal {
     MKB_RATE = 6,      /* a plain divisor isn't 1 to 10^18, a rate, a number of vouchers or of periods is outside its limits, or the basis isn't 0 to 3 */
     MKB_DATE = 7,      /* a date doesn't exist or its year isn't 1900 to 2199 */
     MKB_DAYS = 8,      /* the end is before the start, or the day count is over 366 */
-    MKB_WEIGHTS = 9,   /* weights, a card number or settled totals past the count break their rule, lists differ in length, or a statement's place is over 15 */
+    MKB_WEIGHTS = 9,   /* weights, a card number or settled totals past the count break their rule, lists differ in length, or a statement's place is over 15 or its reason over 99 */
     MKB_NEGATIVE = 10, /* a posting, a refund, a table's principal, a given net total or a settled total is negative */
     MKB_ROOM = 11,     /* the lent output is too short */
     MKB_REFUND = 12,   /* a refund is greater than the net total */
@@ -187,6 +187,30 @@ typedef struct {
     uint64_t next;
 } mkb_view;
 
+/* a statement of either version: its version, 1 or 2, its first record's start, the count of its records and the sum of their coefficients */
+typedef struct {
+    uint8_t refusal, blamed;
+    uint16_t version;
+    uint64_t first, count;
+    int64_t sum;
+} mkb_any_statement;
+
+/* what a view of either version hands out: as mkb_step, with the reason, which is 0 in version 1 */
+typedef struct {
+    uint64_t next;
+    bool ended;
+    uint16_t place, currency, reason;
+    int64_t coefficient;
+} mkb_any_step;
+
+/* a view of a statement of either version, as mkb_view */
+typedef struct {
+    const uint8_t *bytes;
+    size_t length;
+    uint64_t next;
+    uint16_t version;
+} mkb_any_view;
+
 /* the version of the library */
 uint32_t mkb_version(void);
 
@@ -297,6 +321,35 @@ static inline uint8_t mkb_open_view(mkb_view *view, const uint8_t *bytes, size_t
 static inline mkb_step mkb_next_payout(mkb_view *view)
 {
     mkb_step step = mkb_payout_at(view->bytes, view->length, (int64_t)view->next);
+    view->next = step.next;
+    return step;
+}
+
+/* as mkb_write_statement, with a reason code of 0 to 99 beside each payout: a file of version 2, whose records have 24 bytes. A code over 99 and a
+ * list of reasons of another length are 9 too */
+mkb_end mkb_write_reasons(int64_t currency, const uint16_t *places, size_t count, const uint16_t *reasons, size_t codes, const int64_t *coefficients,
+                          size_t others, uint8_t *out, size_t room, int64_t start);
+/* the statement file of either version that the bytes end in; 14 where they end in none */
+mkb_any_statement mkb_check_any(const uint8_t *bytes, size_t count);
+/* the record at a place of the bytes of a version's statement, and the place behind it; ended, and the place itself, where no whole record stands there
+ * before the trailer, or the version is neither 1 nor 2 */
+mkb_any_step mkb_reasoned_at(const uint8_t *bytes, size_t count, int64_t version, int64_t at);
+
+/* a view of the statement file of either version that the bytes end in: 0, or 14 where they end in none, and the view has ended then */
+static inline uint8_t mkb_open_any_view(mkb_any_view *view, const uint8_t *bytes, size_t count)
+{
+    mkb_any_statement said = mkb_check_any(bytes, count);
+    view->bytes = bytes;
+    view->length = count;
+    view->next = said.refusal ? count : said.first;
+    view->version = said.version;
+    return said.refusal;
+}
+
+/* as mkb_next_payout, with the reason */
+static inline mkb_any_step mkb_next_reasoned(mkb_any_view *view)
+{
+    mkb_any_step step = mkb_reasoned_at(view->bytes, view->length, view->version, (int64_t)view->next);
     view->next = step.next;
     return step;
 }

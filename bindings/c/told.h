@@ -75,6 +75,8 @@ void doubles(void);
 void statements(void);
 /* views of statements (views.c) */
 void views(void);
+/* statements with reasons, and readers of either version (reasons.c) */
+void reasons(void);
 /* amounts as text (texts.c) */
 void texts(void);
 #endif

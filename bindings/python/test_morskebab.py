@@ -16,8 +16,8 @@ from morskebab import _statements
 from morskebab import (
     DEM, EUR, FRF, HRK, IEP, ITL, CEILING, DOWN, FLOOR, HALF_DOWN, HALF_EVEN, HALF_UP, UP, L, REASONS,
     ACTUAL_360, ACTUAL_365, THIRTY_360_AMERICAN, THIRTY_360_EUROPEAN,
-    Amount, Book, Columns, Date, Moved, Payout, Ran, Refused, Split, Statement, View, check_statement, currency_line, currency_of, day_count,
-    plain_quotient, take_row, vouchers, write_statement,
+    Amount, AnyStatement, AnyView, Book, Columns, Date, Moved, Payout, Ran, Reasoned, Refused, Split, Statement, View, check_any, check_statement,
+    currency_line, currency_of, day_count, plain_quotient, take_row, vouchers, write_reasons, write_statement,
 )
 from morskebab._c import PARTNERS, CAmount, CBook, library
 
@@ -456,8 +456,44 @@ def views():
             same((write_statement(EUR, [2], [-1250], mapped, 7), bytes(mapped)[7:], [*View(mapped)]), (47, ONE, [Payout(2, EUR, -1250)]))
 
 
+TWO = bytes.fromhex("0200000000000000 1EFBFFFFFFFFFFFF 0700000000000000 18000000 01000000 1EFBFFFFFFFFFFFF 0200000000000000")
+
+
+def reasons():
+    out = bytearray(b"\xa5" * 64)
+    same((write_reasons(EUR, [2], [7], [-1250], out), bytes(out)), (48, TWO + b"\xa5" * 16))
+    same((check_any(TWO), check_any(bytes(7) + TWO), check_any(ONE)), (AnyStatement(2, 0, 1, -1250), AnyStatement(2, 7, 1, -1250), AnyStatement(1, 0, 1, -1250)))
+    same((list(AnyView(TWO)), list(AnyView(ONE))), ([Reasoned(2, EUR, -1250, 7)], [Reasoned(2, EUR, -1250, 0)]))
+    # the old readers say that it is newer, and never give an amount
+    refused(17, lambda: check_statement(TWO))
+    refused(17, lambda: View(TWO))
+    places, codes, coefficients = [i % 16 for i in range(4000)], [i % 100 for i in range(4000)], [L - i if i % 3 else 7 * i - L for i in range(4000)]
+    large = bytearray(96100)
+    same(write_reasons(HRK, places, codes, coefficients, large, 76), 96100)
+    view = AnyView(large)
+    same((view.version, list(view)), (2, [Reasoned(place, HRK, coefficient, code) for place, coefficient, code in zip(places, coefficients, codes)]))
+    same((list(view), next(view, None), check_any(large)), ([], None, AnyStatement(2, 76, 4000, sum(coefficients))))
+    end = write_statement(HRK, places, coefficients, large)
+    old = memoryview(large)[:end]
+    view = AnyView(old)
+    same((view.version, list(view)), (1, [Reasoned(*payout, 0) for payout in View(old)]))
+    stood = bytes(out)
+    for number, currency, where, why, what, start in (
+        (3, 21, [16], [100], [L + 1], 99), (4, 21, [16], [100], [1], 99), (9, EUR, [16], [1], [1], 99), (9, EUR, [1], [100], [1], 99), (9, EUR, [1], [], [1], 0),
+        (9, EUR, [1], [1, 2], [1], 0), (9, EUR, [1], [1], [], 0), (11, EUR, [1], [99], [1], 17), (11, EUR, [1], [0], [1], -1), (11, EUR, [0] * 4001, [0] * 4001, [0] * 4001, 0),
+    ):
+        refused(number, lambda: write_reasons(currency, where, why, what, out, start))
+        same(bytes(out), stood)
+    for data in (b"", TWO[:-1], TWO[1:], TWO + b"\0", TWO[:16] + b"\x64" + TWO[17:], TWO[:17] + b"\1" + TWO[18:], TWO[:40] + b"\3" + TWO[41:], TWO[:23] + b"\1" + TWO[24:]):
+        refused(14, lambda: check_any(data))
+        refused(14, lambda: AnyView(data))
+    named(OverflowError, "reasons[0]", lambda: write_reasons(EUR, [1], [-1], [1], out))
+    named(TypeError, "data", lambda: check_any("1234"))
+    named(TypeError, "out", lambda: write_reasons(EUR, [1], [1], [1], b"1234"))
+
+
 def a_partner_s_statement():
-    """The example, over three statements that stand one behind the other: a book's, an empty one and one in another currency."""
+    """The example, over four statements that stand one behind the other: a book's, an empty one, one in another currency and one with reasons."""
     book, records = Book.open(EUR, [5, 3, 2]), []
     for refund, cents in ((False, 7), (False, 1293), (True, 3)):
         book, moved = book.refund(euros(cents)) if refund else book.post(euros(cents))
@@ -465,6 +501,7 @@ def a_partner_s_statement():
     data, end = bytearray(1000), 0
     for currency, part in ((EUR, records), (EUR, []), (ITL, [(1, 5000), (2, 7)])):
         end = write_statement(currency, [place for place, _ in part], [units for _, units in part], data, end)
+    end = write_reasons(EUR, [1, 1], [0, 42], [5, -5], data, end)
     example = pathlib.Path(__file__).parent / "examples" / "partner.py"
     with tempfile.NamedTemporaryFile() as file:
         def said(content, place):
@@ -472,7 +509,7 @@ def a_partner_s_statement():
             return subprocess.run([sys.executable, example, file.name, str(place)], capture_output=True, text=True)
 
         whole_file = bytes(data[:end])
-        same(said(whole_file, 1).stdout, "EUR 0.02\nEUR 3.88\nEUR -0.01\nITL 5000\npartner 1: 4 payouts, EUR 3.89, ITL 5000\n")
+        same(said(whole_file, 1).stdout, "EUR 0.02\nEUR 3.88\nEUR -0.01\nITL 5000\nEUR 0.05\nEUR -0.05 reason 42\npartner 1: 6 payouts, EUR 3.89, ITL 5000\n")
         same(book.running_totals()[1], 389)
         same((said(whole_file, 15).stdout, said(b"", 0).stdout), ("partner 15: 0 payouts, nothing\n", "partner 0: 0 payouts, nothing\n"))
         same("refusal 14" in said(b"\0" + whole_file, 1).stderr, True)
@@ -500,7 +537,7 @@ def versions():
 
 
 def main():
-    for part in (modes, amounts, past_limits, texts_and_decimals, parsed, fields, lines, euro_steps, days, tables, prices, rows_of_doubles, shares, handed_out, books, cards, broken_books, statements, views, a_partner_s_statement, processes, versions):
+    for part in (modes, amounts, past_limits, texts_and_decimals, parsed, fields, lines, euro_steps, days, tables, prices, rows_of_doubles, shares, handed_out, books, cards, broken_books, statements, views, reasons, a_partner_s_statement, processes, versions):
         part()
     tried = 0
     for module in (morskebab, _statements):

@@ -29,7 +29,7 @@ from enum import IntEnum
 from typing import Any, Callable, NamedTuple
 
 from ._c import PARTNERS, VERSION, CAmount, CBook, CColumns, CDate, library
-from ._statements import Payout, Statement, View, check_statement, write_statement
+from ._statements import AnyStatement, AnyView, Payout, Reasoned, Statement, View, check_any, check_statement, write_reasons, write_statement
 from ._values import REASONS, Refused, accepted, as_bytes, as_list, is_a, whole
 
 __version__ = f"{VERSION // 10000}.{VERSION // 100 % 100}.{VERSION % 100}"

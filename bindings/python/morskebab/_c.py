@@ -49,10 +49,15 @@ CRan = _answer("CRan", ("book", CBook), ("served", c_uint64))
 CEnd = _answer("CEnd", ("end", c_uint64))
 CStatement = _answer("CStatement", ("first", c_uint64), ("count", c_uint64), ("sum", c_int64))
 CFirst = _answer("CFirst", ("first", c_uint64))
+CAnyStatement = _answer("CAnyStatement", ("version", c_uint16), ("first", c_uint64), ("count", c_uint64), ("sum", c_int64))
 
 
 class CStep(Structure):
     _fields_ = [("next", c_uint64), ("ended", c_bool), ("place", c_uint16), ("currency", c_uint16), ("coefficient", c_int64)]
+
+
+class CAnyStep(Structure):
+    _fields_ = [("next", c_uint64), ("ended", c_bool), ("place", c_uint16), ("currency", c_uint16), ("reason", c_uint16), ("coefficient", c_int64)]
 
 
 def _lent(kind: type) -> tuple:
@@ -94,6 +99,9 @@ FUNCTIONS = {
     "mkb_check_statement": (CStatement, *_lent(c_uint8)),
     "mkb_first_payout": (CFirst, *_lent(c_uint8)),
     "mkb_payout_at": (CStep, *_lent(c_uint8), c_int64),
+    "mkb_write_reasons": (CEnd, c_int64, *_lent(c_uint16), *_lent(c_uint16), *_lent(c_int64), *_lent(c_uint8), c_int64),
+    "mkb_check_any": (CAnyStatement, *_lent(c_uint8)),
+    "mkb_reasoned_at": (CAnyStep, *_lent(c_uint8), c_int64, c_int64),
     "mkb_run": (CRan, CBook, *_lent(c_bool), *_lent(c_int64), *_lent(c_uint64), *_lent(c_uint8)),
 }
 

@@ -15,7 +15,7 @@ REASONS = {
     6: "a divisor, a rate, a number of vouchers or of periods or the basis is outside its limits",
     7: "a date doesn't exist or its year isn't 1900 to 2199",
     8: "the end is before the start, or the day count is over 366",
-    9: "weights, a card number or settled totals past the count break their rule, lists differ in length, or a statement's place is over 15",
+    9: "weights, a card number or settled totals past the count break their rule, lists differ in length, or a statement's place is over 15 or its reason over 99",
     10: "a posting, a refund, a table's principal, a given net total or a settled total is negative",
     11: "the lent output is too short",
     12: "a refund is greater than the net total",

@@ -162,6 +162,26 @@ pub struct Step {
     pub coefficient: i64,
 }
 
+#[repr(C)]
+pub struct AnyStatement {
+    pub refusal: u8,
+    pub blamed: u8,
+    pub version: u16,
+    pub first: u64,
+    pub count: u64,
+    pub sum: i64,
+}
+
+#[repr(C)]
+pub struct AnyStep {
+    pub next: u64,
+    pub ended: bool,
+    pub place: u16,
+    pub currency: u16,
+    pub reason: u16,
+    pub coefficient: i64,
+}
+
 /// A field of what the library hands back: such a number is a `u8` of its own.
 pub fn small(n: i32) -> u8 {
     n as u8
@@ -209,6 +229,20 @@ extern "C" {
     pub fn mkb_check_statement(bytes: *const u8, count: usize) -> Statement;
     pub fn mkb_first_payout(bytes: *const u8, count: usize) -> First;
     pub fn mkb_payout_at(bytes: *const u8, count: usize, at: i64) -> Step;
+    pub fn mkb_write_reasons(
+        currency: i64,
+        places: *const u16,
+        count: usize,
+        reasons: *const u16,
+        codes: usize,
+        coefficients: *const i64,
+        others: usize,
+        out: *mut u8,
+        room: usize,
+        start: i64,
+    ) -> End;
+    pub fn mkb_check_any(bytes: *const u8, count: usize) -> AnyStatement;
+    pub fn mkb_reasoned_at(bytes: *const u8, count: usize, version: i64, at: i64) -> AnyStep;
     pub fn mkb_run(
         book: Book,
         refunds: *const bool,

@@ -17,12 +17,14 @@
 mod books;
 mod dates;
 mod ffi;
+mod reasons;
 mod refusal;
 mod statements;
 mod texts;
 
 pub use books::{Book, Moved};
 pub use dates::{day_count, Basis, Date};
+pub use reasons::{check_any, write_reasons, AnyStatement, AnyView, Reasoned};
 pub use refusal::{Blamed, Refusal};
 pub use statements::{check_statement, write_statement, Payout, Statement, View};
 use std::cmp::Ordering;

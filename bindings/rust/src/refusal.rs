@@ -27,7 +27,7 @@ pub enum Refusal {
     Date(Blamed),
     /// 8: the end is before the start, or the day count is over 366
     Days,
-    /// 9: weights, a card number or settled totals past the count break their rule, lists differ in length, or a statement's place is over 15
+    /// 9: weights, a card number or settled totals past the count break their rule, lists differ in length, or a statement's place is over 15 or its reason over 99
     Weights,
     /// 10: a posting, a refund, a table's principal, a given net total or a settled total is negative
     Negative,
@@ -83,7 +83,7 @@ impl Refusal {
             Refusal::Date(Blamed::First) => "a date doesn't exist or its year isn't 1900 to 2199 (the first date)",
             Refusal::Date(Blamed::Second) => "a date doesn't exist or its year isn't 1900 to 2199 (the second date)",
             Refusal::Days => "the end is before the start, or the day count is over 366",
-            Refusal::Weights => "weights, a card number or settled totals past the count break their rule, lists differ in length, or a statement's place is over 15",
+            Refusal::Weights => "weights, a card number or settled totals past the count break their rule, lists differ in length, or a statement's place is over 15 or its reason over 99",
             Refusal::Negative => "a posting, a refund, a table's principal, a given net total or a settled total is negative",
             Refusal::Room => "the lent output is too short",
             Refusal::Refund => "a refund is greater than the net total",

@@ -4,3 +4,4 @@ pub mod Books
 pub mod Rows
 pub mod Statements
 pub mod Views
+pub mod Reasons

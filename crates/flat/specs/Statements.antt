@@ -17,6 +17,6 @@ abbrev pub statementOf : Said Summary → MkbStatement
 statementOf (gives s) = record { refusal = 0; blamed = 0; first = s .first; count = s .count; sum = s .sum }
 statementOf (refuses number blamed) = record { refusal = number; blamed = blamed; first = 0; count = 0; sum = pos 0 }
 
--- an answer of `write`, field for field
+-- an answer of `write` or `write_reasons`, field for field
 abbrev pub endFlat : Written → MkbEnd
 endFlat w = record { refusal = numberIn (w .outcome); blamed = blamedIn (w .outcome); end = w .end }

@@ -11,6 +11,7 @@ mod lines;
 mod numbers;
 mod orders;
 mod prices;
+mod reasons;
 mod rows;
 mod statements;
 mod texts;
@@ -29,10 +30,13 @@ pub use given::given_currency;
 pub use given::given_date;
 pub use lines::flat_line;
 pub use numbers::pass_u8;
+pub use numbers::pass_u16;
 pub use numbers::pass_u32;
 pub use numbers::pass_u64;
 pub use orders::flat_order;
 pub use prices::flat_split;
+pub use reasons::flat_any_statement;
+pub use reasons::flat_any_step;
 pub use rows::flat_double;
 pub use rows::flat_row;
 pub use rows::given_row;
@@ -212,5 +216,27 @@ pub struct MkbStep {
     pub ended: bool,
     pub place: u16,
     pub currency: u16,
+    pub coefficient: i64,
+}
+
+// The same of a statement of either version, with its version.
+#[repr(C)]
+pub struct MkbAnyStatement {
+    pub refusal: u8,
+    pub blamed: u8,
+    pub version: u16,
+    pub first: u64,
+    pub count: u64,
+    pub sum: i64,
+}
+
+// What a view of either version hands out at a place, with the reason.
+#[repr(C)]
+pub struct MkbAnyStep {
+    pub next: u64,
+    pub ended: bool,
+    pub place: u16,
+    pub currency: u16,
+    pub reason: u16,
     pub coefficient: i64,
 }

@@ -23,7 +23,7 @@ pub fn pass_u8(n: i64) -> u8
     pass(255, n) as u8
 }
 
-pub(crate) fn pass_u16(n: i64) -> u16
+pub fn pass_u16(n: i64) -> u16
     ensures { λ r. ⌜ r ≡ passed16 n ⌝ }
 {
     pass(65_535, n) as u16

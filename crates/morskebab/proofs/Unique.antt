@@ -1,7 +1,7 @@
 -- Every promise of the face but that of `mkb_net_for` is an equation: the answer is a term over what C gave, and so is every lent place. Two
 -- answers that a promise allows are equal, and so are the lent places that they leave. Assumes nothing.
 use mathlib.Core.Path.{_≡_, sym, _∙_, ap}
-use mathlib.Core.Bool.{Bool}
+use mathlib.Core.Bool.{Bool, true}
 use mathlib.Core.List.{List}
 use Prim.Native.Nat.{ℕ}
 use lib.IntN.{ℤ}
@@ -12,8 +12,8 @@ use Rattle.weights.specs.Lent.{outAfter}
 use Rattle.sharing.specs.Shared.{sharedSaid}
 use Rattle.vouchers.specs.Said.{vouchersSaid}
 use Rattle.compound.specs.Table.{tableSaid, listAfter}
-use Rattle.statement.specs.Files.{fileBytes}
-use Rattle.statement.specs.Writing.{payout, writeSaid, bufferAfter}
+use Rattle.statement.specs.Files.{fileBytes, fileOf}
+use Rattle.statement.specs.Writing.{payout, payoutWith, writeSaid, reasonsSaid, bufferAfter}
 use Rattle.text.specs.Written.{textOf, writeSaid as textSaid, bufferAfter as textAfter}
 use Rattle.tax.specs.declared.Taxed.{Taxed}
 use Rattle.tax.specs.Tax.{meansTax}
@@ -74,6 +74,16 @@ Writes currency places coefficients out start r left =
 pub one-statement : (currency : ℤ) (places : List ℕ) (coefficients : List ℤ) (out : List ℕ) (start : ℤ) (r s : MkbEnd) (left left′ : List ℕ)
     → Writes currency places coefficients out start r left → Writes currency places coefficients out start s left′ → (r ≡ s) × (left ≡ left′)
 one-statement currency places coefficients out start r s left left′ p q = (one-answer (p .0) (q .0), one-answer (p .1) (q .1))
+
+-- what `mkb_write_reasons` promises of its answer and of the buffer that it was lent
+abbrev pub WritesReasons : (currency : ℤ) (places reasons : List ℕ) (coefficients : List ℤ) (out : List ℕ) (start : ℤ) (r : MkbEnd) (left : List ℕ) → Type 0
+WritesReasons currency places reasons coefficients out start r left =
+    let said = reasonsSaid (currencyFrom currency) places reasons coefficients (length out) (passed64 start) in
+    (r ≡ endOf said) × (left ≡ bufferAfter said (passed64 start) (fileOf true (payoutWith (currencyFrom currency) places reasons coefficients) (length places)) out)
+
+pub one-reasons : (currency : ℤ) (places reasons : List ℕ) (coefficients : List ℤ) (out : List ℕ) (start : ℤ) (r s : MkbEnd) (left left′ : List ℕ)
+    → WritesReasons currency places reasons coefficients out start r left → WritesReasons currency places reasons coefficients out start s left′ → (r ≡ s) × (left ≡ left′)
+one-reasons currency places reasons coefficients out start r s left left′ p q = (one-answer (p .0) (q .0), one-answer (p .1) (q .1))
 
 -- what `mkb_write` promises of its answer and of the buffer that it was lent
 abbrev pub Texts : MkbAmount → (out : List ℕ) (r : MkbWritten) (left : List ℕ) → Type 0

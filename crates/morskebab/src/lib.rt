@@ -4,6 +4,7 @@ mod amounts;
 mod books;
 mod days;
 mod prices;
+mod reasons;
 mod rows;
 mod runs;
 mod shares;
