@@ -29,7 +29,7 @@ answer one_field(uint8_t refusal, Datum value);
 answer of_amount(mkb_amount_answer found);
 
 /* an error with the number, the row's words and the date that is blamed; its SQLSTATE is MK and the number in three digits */
-void raise_refusal(uint8_t refusal, uint8_t blamed, const char *flaw) pg_attribute_noreturn();
+void raise_refusal(uint8_t refusal, uint8_t blamed, const char *flaw) __attribute__((noreturn));
 Datum value_or_error(FunctionCallInfo fcinfo, answer found);
 Datum number_and_value(FunctionCallInfo fcinfo, answer found);
 /* a row of the type that the function is declared with; it is looked up once for each place in a query that calls the function */

@@ -18,7 +18,7 @@ static void
 need(FunctionCallInfo fcinfo, int place, const char *name)
 {
     if (place != 0 && PG_ARGISNULL(place))
-        ereport(ERROR, (errcode(ERRCODE_NULL_VALUE_NOT_ALLOWED), errmsg("the %s of a book's row is null", name)));
+        ereport(ERROR, (errcode(ERRCODE_NULL_VALUE_NOT_ALLOWED), errmsg("a row of a book has no %s", name)));
 }
 
 /* the all-zero book of document 01 where the opening is refused */
@@ -125,7 +125,7 @@ sql_book_row(PG_FUNCTION_ARGS)
         PG_RETURN_POINTER(run);
     need(fcinfo, at.kind, "kind");
     need(fcinfo, at.amount, "amount");
-    need(fcinfo, at.own, "amount's currency");
+    need(fcinfo, at.own, "currency of its amount");
     run->rows++;
     kind = PG_GETARG_TEXT_PP(at.kind);
     if (is_word(kind, "post") || is_word(kind, "refund")) {
