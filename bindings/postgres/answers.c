@@ -71,7 +71,7 @@ row_of(FunctionCallInfo fcinfo, Datum *fields, bool *nulls)
 Datum
 value_or_error(FunctionCallInfo fcinfo, answer found)
 {
-    bool nulls[MOST_FIELDS] = {false};
+    bool nulls[MOST_FIELDS] = {found.absent};
     if (found.refusal != MKB_ACCEPTED)
         raise_refusal(found.refusal, found.blamed, found.flaw);
     return found.count == 1 ? found.fields[0] : row_of(fcinfo, found.fields, nulls);
@@ -85,7 +85,7 @@ number_and_value(FunctionCallInfo fcinfo, answer found)
     int before = found.blames ? 2 : 1;
     for (int field = 0; field < found.count; field++) {
         fields[before + field] = found.fields[field];
-        nulls[before + field] = found.refusal != MKB_ACCEPTED;
+        nulls[before + field] = found.refusal != MKB_ACCEPTED || (field == 0 && found.absent);
     }
     return row_of(fcinfo, fields, nulls);
 }

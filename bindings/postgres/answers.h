@@ -3,16 +3,15 @@
 #ifndef MORSKEBAB_ANSWERS_H
 #define MORSKEBAB_ANSWERS_H
 #include "given.h"
+#include "words.h"
 
-/* the refusals' numbers are 1 to this */
-#define REFUSALS 16
 /* the most fields of a value */
 #define MOST_FIELDS 3
 
-/* `blames` says whether the sister tells which date a refusal blames; `flaw` says more of a refused list, or is NULL */
+/* `blames` says whether the sister tells which date a refusal blames; `flaw` says more of a refused list, or is NULL; `absent`: the first field is null */
 typedef struct {
     uint8_t refusal, blamed;
-    bool blames;
+    bool blames, absent;
     const char *flaw;
     int count;
     Datum fields[MOST_FIELDS];

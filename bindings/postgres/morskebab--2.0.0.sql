@@ -11,6 +11,7 @@ CREATE TYPE mkb_price AS (net numeric, tax numeric, gross numeric);
 CREATE TYPE mkb_columns AS (net numeric, tax numeric);
 -- where a statement file begins in the bytes, how many records it has, and the sum of their coefficients
 CREATE TYPE mkb_file AS (first bigint, records bigint, sum numeric);
+CREATE TYPE mkb_lists AS (currency text, places integer[], amounts numeric[]);
 
 CREATE TYPE mkb_tried_numeric AS (refusal integer, value numeric);
 CREATE TYPE mkb_tried_numerics AS (refusal integer, value numeric[]);
@@ -25,6 +26,7 @@ CREATE TYPE mkb_tried_interest AS (refusal integer, blamed integer, value numeri
 CREATE TYPE mkb_tried_price AS (refusal integer, net numeric, tax numeric, gross numeric);
 CREATE TYPE mkb_tried_columns AS (refusal integer, net numeric, tax numeric);
 CREATE TYPE mkb_tried_file AS (refusal integer, first bigint, records bigint, sum numeric);
+CREATE TYPE mkb_tried_lists AS (refusal integer, currency text, places integer[], amounts numeric[]);
 
 CREATE FUNCTION mkb_version() RETURNS text
     AS 'MODULE_PATHNAME', 'sql_version' LANGUAGE C IMMUTABLE STRICT PARALLEL SAFE;
@@ -211,11 +213,17 @@ CREATE FUNCTION mkb_statement(currency text, places integer[], amounts numeric[]
 CREATE FUNCTION mkb_try_statement(currency text, places integer[], amounts numeric[]) RETURNS mkb_tried_bytes
     AS 'MODULE_PATHNAME', 'try_statement' LANGUAGE C IMMUTABLE STRICT PARALLEL SAFE;
 
--- the statement file that the bytes end in: refusal 14 where they end in none
+-- the statement file that the bytes end in: refusals 17 where it is of version 2, 14 where they end in none
 CREATE FUNCTION mkb_check_statement(bytes bytea) RETURNS mkb_file
     AS 'MODULE_PATHNAME', 'sql_check_statement' LANGUAGE C IMMUTABLE STRICT PARALLEL SAFE;
 CREATE FUNCTION mkb_try_check_statement(bytes bytea) RETURNS mkb_tried_file
     AS 'MODULE_PATHNAME', 'try_check_statement' LANGUAGE C IMMUTABLE STRICT PARALLEL SAFE;
+
+-- what the statement file that the bytes end in was written from; an empty one has no currency: refusals 17, 14
+CREATE FUNCTION mkb_payouts(bytes bytea) RETURNS mkb_lists
+    AS 'MODULE_PATHNAME', 'sql_payouts' LANGUAGE C IMMUTABLE STRICT PARALLEL SAFE;
+CREATE FUNCTION mkb_try_payouts(bytes bytea) RETURNS mkb_tried_lists
+    AS 'MODULE_PATHNAME', 'try_payouts' LANGUAGE C IMMUTABLE STRICT PARALLEL SAFE;
 
 -- rerun's report on a book, as a row. refusal is the opening's, 0 where it is accepted; what only an opened book has is null elsewhere. A place of
 -- refused_times and refused_first is the refusal's number: how many rows were refused with it, and the first of them, by its place among the book's rows

@@ -1,6 +1,9 @@
 /* Statement files, as bytea. */
 #include "answers.h"
 
+#include "catalog/pg_type.h"
+#include "utils/builtins.h"
+
 /* the bytes of a file's record and of its trailer, and the most records of a file */
 #define RECORD 16
 #define TRAILER 24
@@ -76,3 +79,31 @@ check_statement_answer(FunctionCallInfo fcinfo)
     return told;
 }
 CALL(check_statement)
+
+/* mkb_payouts(bytes): the currency, the places and the amounts that the file was written from, by the proved walk of its records; an empty one has no
+   currency */
+static answer
+payouts_answer(FunctionCallInfo fcinfo)
+{
+    const bytea *bytes = PG_GETARG_BYTEA_PP(0);
+    Datum places[MOST_RECORDS];
+    int128 *coefficients = palloc(sizeof(int128) * MOST_RECORDS);
+    mkb_line line = {.digits = 0};
+    mkb_view view;
+    answer told = {.count = 3, .absent = true};
+    int count = 0;
+    told.refusal = mkb_open_view(&view, (const uint8_t *) VARDATA_ANY(bytes), VARSIZE_ANY_EXHDR(bytes));
+    if (told.refusal != MKB_ACCEPTED)
+        return told;
+    for (mkb_step step = mkb_next_payout(&view); !step.ended && count < MOST_RECORDS; step = mkb_next_payout(&view)) {
+        line = mkb_currency(step.currency);
+        told.absent = false;
+        places[count] = Int32GetDatum(step.place);
+        coefficients[count++] = step.coefficient;
+    }
+    told.fields[0] = PointerGetDatum(cstring_to_text_with_len((const char *) line.code, told.absent ? 0 : sizeof line.code));
+    told.fields[1] = PointerGetDatum(construct_array(places, count, INT4OID, sizeof(int32), true, TYPALIGN_INT));
+    told.fields[2] = numerics_at(coefficients, count, line.digits);
+    return told;
+}
+CALL(payouts)

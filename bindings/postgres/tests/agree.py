@@ -8,8 +8,8 @@ import subprocess
 import sys
 
 HERE = pathlib.Path(__file__).resolve().parents[1]
-sys.path.insert(0, str(HERE.parent / "python"))
-from morskebab_values import REASONS  # noqa: E402
+sys.path.append(str(HERE.parent / "python/morskebab"))
+from _values import REASONS  # noqa: E402
 
 
 def same(what: str, one: object, other: object) -> None:
@@ -25,11 +25,8 @@ def main() -> None:
     control = re.search(r"default_version = '(.*)'", (HERE / "morskebab.control").read_text())
     same("the header's version and the extension's", text, control[1] if control else None)
     same("the extension's file and the header's version", (HERE / f"morskebab--{text}.sql").exists(), True)
-    numbers = [int(number) for number in re.findall(r"MKB_[A-Z_]+ = (\d+)", header)]
-    most = re.search(r"#define REFUSALS (\d+)", (HERE / "answers.h").read_text())
-    same("the refusals' numbers", max(numbers), int(most[1]) if most else None)
-    words = re.sub(r'"\s*"', "", (HERE / "refusals.c").read_text())
-    same("the refusals' rows", sorted(re.findall(r'\[MKB_\w+\] = "(.*?)"', words)), sorted(REASONS.values()))
+    numbers = sorted(int(number) for number in re.findall(r"MKB_[A-Z_]+ = (\d+)", header) if number != "0")
+    same("the refusals' numbers and rows", numbers, sorted(REASONS))
     declared = set(re.findall(r"'MODULE_PATHNAME', '(\w+)'", (HERE / f"morskebab--{text}.sql").read_text()))
     symbols = subprocess.run(["nm", "-D", "--defined-only", sys.argv[1]], check=True, capture_output=True, text=True).stdout
     exported = set(re.findall(r" T (\w+)", symbols)) - {"Pg_magic_func"}

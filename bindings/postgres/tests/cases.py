@@ -15,7 +15,7 @@ from sql_calls import SECOND, Call, Lines, NoCall, asks, field
 
 from generate import generated
 from lines import is_copied, understood
-from morskebab_values import REASONS
+from _values import REASONS
 from reading import Reading
 from refusals import Refusal
 from texts import with_texts_read

@@ -11,10 +11,11 @@ EXCEPTION WHEN OTHERS THEN
     RETURN rtrim(SQLSTATE || ' ' || SQLERRM || ' ' || detail);
 END $$;
 
--- `22004 ..` is any error of that SQLSTATE
+-- `22004 ..` is any error of that SQLSTATE, and `MK009 .. weights[2] is null.` one with that detail
 CREATE TABLE cases (line text NOT NULL, call text NOT NULL, wanted text);
 CREATE FUNCTION is_said(answer text, wanted text) RETURNS boolean LANGUAGE sql AS $$
-    SELECT answer IS NOT DISTINCT FROM wanted OR (wanted LIKE '_____ ..' AND left(answer, 6) = left(wanted, 6))
+    SELECT answer IS NOT DISTINCT FROM wanted
+        OR coalesce(wanted LIKE '_____ ..%' AND left(answer, 6) = left(wanted, 6) AND right(answer, length(wanted) - 8) = substr(wanted, 9), false)
 $$;
 
 -- how many cases there are; the first that says anything else is an error

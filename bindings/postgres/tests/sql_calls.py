@@ -9,11 +9,12 @@ from typing import Any, NamedTuple
 
 TOP = pathlib.Path(__file__).resolve().parents[3]
 SECOND = TOP / "second"
-sys.path[:0] = [str(SECOND), str(TOP / "bindings/python")]
+sys.path[:0] = [str(SECOND)]
+sys.path.append(str(TOP / "bindings/python/morskebab"))
 import asks  # noqa: E402
 
-# statements are in the library and in SQL, though the desk has no lines of them yet
-asks.LANDED = asks.LANDED | {3}
+# statements are in the library and in SQL, though the desk may have no lines of them yet
+asks.LANDED = asks.LANDED | {3, 11, 13}
 
 from amounts import CURRENCIES, Amount, negation_of, order_of, rescaled, sum_of  # noqa: E402
 from book import ALL_ZERO_BOOK, Book, new_card, open_book, post, refund, totals  # noqa: E402
@@ -25,7 +26,7 @@ from interest import interest  # noqa: E402
 from refusals import Refusal  # noqa: E402
 from rounding import round_product, round_quotient  # noqa: E402
 from sharing import share  # noqa: E402
-from statements import read_statement, write_statement  # noqa: E402
+from statements import opened_view, read_statement, records_of, write_statement  # noqa: E402
 from tax import net_for, split_from_net, tax_from_gross, tax_from_net  # noqa: E402
 from texts import read_text, text_of, write_text  # noqa: E402
 from vouchers import vouchers  # noqa: E402
@@ -119,7 +120,10 @@ class Lines:
         self.book: Book = ALL_ZERO_BOOK
 
     def call(self, verb: bytes, values: list[Any]) -> Call:
-        return getattr(self, verb.decode().replace("-", "_"))(*values)
+        found = getattr(self, verb.decode().replace("-", "_"), None)
+        if found is None:
+            raise NoCall
+        return found(*values)
 
     def round(self, number: int, *others: int) -> Call:
         found = (round_quotient if len(others) == 2 else round_product)(number, *others)
@@ -204,6 +208,15 @@ class Lines:
         found = price(read_statement(data), lambda file: [str(file.first), str(file.count), str(file.sum)])
         return Call("check_statement", [f"'\\x{data.hex()}'"], found, fields=3)
 
+    def view(self, data: bytes) -> Call:
+        def fields(view: Any) -> list[str | None]:
+            records = records_of(view)
+            code = CURRENCIES[records[0].currency].code if records else None
+            digits = CURRENCIES[records[0].currency].digits if records else 0
+            return [code, listed(0, (each.place for each in records)), listed(digits, (each.coefficient for each in records))]
+
+        return Call("payouts", [f"'\\x{data.hex()}'"], price(opened_view(data), fields), fields=3)
+
     def open(self, number: int, *weights: int) -> Call:
         refusal, self.book = open_book(number, weights)
         digits = CURRENCIES[number].digits if number < len(CURRENCIES) else 0
@@ -217,7 +230,7 @@ class Lines:
     def post(self, given: Amount) -> Call:
         return self.moved("post", post(self.book, given), given)
 
-    def refund(self, given: Amount) -> Call:
+    def refund(self, given: Amount, reason: int = 0) -> Call:
         return self.moved("refund", refund(self.book, given), given)
 
     def totals(self) -> Call:
@@ -232,6 +245,8 @@ class Lines:
         raise NoCall
 
 
-def field(value: str) -> str:
+def field(value: str | None) -> str:
     """A field of a row as SQL writes it."""
+    if value is None:
+        return ""
     return '"' + value.replace("\\", "\\\\") + '"' if set(value) & set('\\, ()"') or not value else value
