@@ -180,6 +180,7 @@ def _foot(quarter: Quarter) -> Iterator[str]:
     yield "<footer><h2>How to read this page</h2>"
     yield "<p>A partner's <b>exact share</b> is the book's net times its weight, divided by the sum of the weights. A fraction behind it is of the last digit.</p>"
     yield "<p><b>Total</b> is what was paid less what was taken back. Its <b>distance</b> from the exact share, in the currency's smallest unit, is less than one "
-    yield "unit on each card, after every row, whatever the batches: this is proved of the program that shared the money.</p>"
+    yield "unit on each card, after every row, whatever the batches: this is proved of the library that shares the money. The reading of the files and this page are "
+    yield "tested, not proved; the checks compare what they added up with the library's totals.</p>"
     yield "<p><b>check ok</b> says that for every partner paid less taken back is the total, that the total is the exact share rounded down or up, and that the totals add up to the net.</p>"
     yield f"<p>{text(end_line(quarter))}. Morskebab {__version__}.</p></footer></body></html>"
