@@ -1,5 +1,5 @@
 """hostile.py SEED COUNT: so many random calls of hostile values, of every function in the extension's own file, each with its sister, as COPY
-reads them."""
+reads them. hostile.py SEED COUNT books: so many books of hostile rows through the aggregate, as cases."""
 from __future__ import annotations
 
 import pathlib
@@ -46,8 +46,20 @@ def value(source: random.Random, name: str, of: str) -> str:
     return f"{source.choice(pool)}::{of}" if of != "numeric" else f"({source.choice(pool)})::numeric"
 
 
+def book(source: random.Random) -> str:
+    """A book's rows of hostile values through the aggregate; whatever is refused among them, its check is ok, or it was not opened."""
+    weights = listed(source, NUMERICS + ["NULL"], "numeric") if source.random() < 0.2 else "ARRAY[5, 3, 2]::numeric[]"
+    kinds = ["'post'", "'refund'", "'post'", "'refund'", "''", "'Post'"]
+    rows = ", ".join(f"({source.choice(kinds)}, ({source.choice(NUMERICS)})::numeric, '{source.choice(CODES)}')" for _ in range(source.choice((1, 3, 30))))
+    return f"SELECT coalesce((mkb_try_book('{source.choice(CODES[:6])}', {weights}, kind, amount, currency)).check_ok, true) FROM (VALUES {rows}) v(kind, amount, currency)"
+
+
 def main() -> None:
     source, count = random.Random(int(sys.argv[1])), int(sys.argv[2])
+    if sys.argv[3:] == ["books"]:
+        for _ in range(count):
+            print("a book of hostile rows", book(source).replace("\\", "\\\\"), "true", sep="\t")
+        return
     declared = next(pathlib.Path(__file__).resolve().parents[1].glob("morskebab--*.sql")).read_text()
     functions = re.findall(r"CREATE FUNCTION mkb_try_(\w+)\((?!state)(.*?)\) RETURNS mkb_tried_", declared)
     for _ in range(count):
