@@ -7,12 +7,10 @@ import io
 import json
 import os
 import pathlib
-import random
 import sys
 import tempfile
 
 import morskebab
-from morskebab import ledger, tables
 from morskebab.cli import main as command
 
 ROOT = pathlib.Path(__file__).resolve().parents[2]
@@ -167,56 +165,6 @@ def spellings():
     same((report["unended"], report["unended_contracts"], rerun(HEAD)["rows"]), (False, True, 0))
 
 
-def blocks():
-    """However the file is cut into blocks, the rows, their lines and what is no row are the same, and no line is lost."""
-    source = random.Random(29)
-    pieces = ["1,2\n", "\n", '"a\nb",c\n', '"a\n\nb""",c\n', '"x"y,z\n', "é,ü\n", '"open,1\n', "1\n", "7" * 90 + ",8\n", ',"\n', '"",""\n', "1,2,3\n"]
-    stood = tables.BLOCK, tables.LINE
-    for _ in range(150):
-        text = "".join(source.choices(pieces, k=source.randint(0, 12))) + source.choice(["", "9,9"])
-        put("t.csv", "p,q\n" + text)
-        found = []
-        for tables.BLOCK in (60, 1, 2, 3, 5, 8, 13, 40):
-            tables.LINE = 60
-            table = tables.Table("t.csv", {"p": "p", "q": "q"})
-            held = list(table.blocks())
-            rows = sorted((line, row) for block in held for line, row in zip(block.lines, block.rows) if row not in tables.EMPTY)
-            faults = sorted((fault.line, len(fault.words)) for block in held for fault in block.faults)
-            found.append((rows, [line for line, _ in faults], table.lines, table.unended))
-        tables.BLOCK, tables.LINE = stood
-        same([part for part in found if part != found[0]], [])
-        covered = [line + more for line, row in found[0][0] for more in range(1 + sum(word.count("\n") for word in row))] + found[0][1]
-        wanted = [line for line, held in enumerate(text.split("\n"), 2) if held]
-        same([line for line in wanted if line not in covered], [])
-
-
-def texts():
-    """The quick way of an amount's text is the library's, wherever it is taken."""
-    source = random.Random(29)
-    for digits, currency in ((0, morskebab.ITL), (2, morskebab.EUR)):
-        quick = ledger.Amounts(digits)
-        taken = 0
-        for _ in range(4000):
-            text = "".join(source.choices("0123456789..-+ e", k=source.randint(0, 4))) if source.random() < 0.5 else amount_near(source, digits)
-            try:
-                coefficient = quick[text]
-            except KeyError:
-                try:
-                    by_library = morskebab.Amount.parse(currency, text)
-                    assert by_library.scale != digits or by_library.coefficient < 0, text
-                except morskebab.Refused:
-                    pass
-                continue
-            same(repr(morskebab.Amount.parse(currency, text)), repr(morskebab.Amount(currency, digits, coefficient)))
-            taken += 1
-        assert taken > 500, taken
-
-
-def amount_near(source, digits):
-    whole = str(source.randint(0, 10 ** source.randint(0, 17)))
-    return whole + ("." + "".join(source.choices("0123456789", k=source.choice([digits, digits, digits, 1, 3, 7]))) if source.random() < 0.9 and digits else "")
-
-
 def cards():
     """Cards by their days, however the rows of the contracts stand; who comes and who goes; a row that is late."""
     contracts = "weight,partner,from,currency,book\n1,Y,2023-03-01,EUR,A\n1,X,2023-01-01,EUR,A\n1,Z,2023-02-01,EUR,A\n1,X,2023-02-01,EUR,A\n1,Y,2023-01-01,EUR,A\n1,Z,2024-01-01,EUR,A\n"
@@ -227,6 +175,8 @@ def cards():
     same([[(p["name"], p["weight"], p["total"]) for p in card["partners"]] for card in book["cards"]],
          [[("X", 1, "0.50"), ("Y", 1, "0.50"), ("Z", 0, "0.00")], [("X", 1, "0.50"), ("Y", 0, "0.00"), ("Z", 1, "0.50")], [("X", 0, "0.00"), ("Y", 1, "1.00"), ("Z", 0, "0.00")]])
     same(([p["total"] for p in book["together"]["partners"]], book["not_reached"], book["check"]), (["1.00", "1.50", "0.50"], ["2024-01-01"], "ok"))
+    put("p.csv", HEAD + "".join(f"2023-01-{day:02d},A,post,1.00,EUR,r\n" for day in range(28, 0, -1)))
+    has(run("rerun", "--contracts", put("c.csv", CONTRACTS), "--postings", "p.csv")[1], "the oldest first")
 
 
 def contracts_and_commands():
@@ -249,6 +199,7 @@ def contracts_and_commands():
         ([], 2, "COMMAND"), (["rerun"], 2, "--contracts"), (["rerun", "--contracts", "c.csv", "--postings", "none.csv"], 3, "none.csv: No such file"), (["rerun", "--contracts", "c.csv", "--postings", "."], 3, "directory"),
         (["rerun", "--contracts", "c.csv", "--postings", "p.csv", "--encoding", "klingon"], 2, "klingon"), (["rerun", "--contracts", "c.csv", "--postings", "p.csv", "--column", "colour=red"], 2, "colour=red"),
         (["rerun", "--contracts", "c.csv", "--postings", "p.csv", "--kind", "sale"], 2, "sale"), (["rerun", "--contracts", "c.csv", "--postings", "p.csv", "--html", "none/x.html"], 3, "No such file"),
+        (["rerun", "--contracts", "c.csv", "--postings", "p.csv", "--html", "p.csv"], 2, "p.csv is read, and would be written over"),
         (["rerun", "--contracts", "c.csv", "--postings", "c.csv"], 2, "c.csv: line 1: there is no column 'time', 'kind', 'amount', 'reference'; the columns are: book"),
     ):
         _, told = run(*words, status=status)
@@ -279,6 +230,10 @@ def statements():
     has(run("statement", "--contracts", "c.csv", "--postings", "p.csv", "out.mkb", status=2)[1], "--book has to name one; the books are: A, B")
     has(run("statement", "--contracts", "c.csv", "--postings", "p.csv", "--book", "C", "out.mkb", status=2)[1], "there is no book 'C'")
     same(pathlib.Path("out.mkb").read_bytes(), stood)
+    put("q.csv", "wer;wieviel\nXaver;1.00\n")
+    run("statement", "--contracts", "c.csv", "--payouts", "q.csv", "--book", "A", "--column", "payouts.partner=wer", "--column", "payouts.amount=wieviel", "other.mkb")
+    put("german.csv", CONTRACTS.replace("partner", "wer"))
+    has(run("view", "other.mkb", "--contracts", "german.csv", "--column", "partner=wer", "--book", "A")[0], "Xaver", "1.00", "1 records")
     has(run("view", "c.csv", status=4)[1], "c.csv: refusal 14")
     has(run("view", "out.mkb", "--contracts", "c.csv", "--book", "B", status=4)[1], "the statement is in EUR, and book B in DEM")
 
@@ -298,10 +253,21 @@ def pages():
     has(pathlib.Path("r.csv").read_text(), "3,'=2+2,'=1+1,14")
 
 
+def shapes():
+    """Pages of no rows, of sixteen partners, of many years, of many refused rows."""
+    put("c.csv", "book,currency,from,partner,weight\n" + "".join(f"A,EUR,2000-01-01,P{place},{place}\n" for place in range(1, 17)))
+    for name, rows, status in (("none", "", 0), ("one", "2000-01-01,A,post,1.00,EUR,r\n", 0), ("years", "".join(f"20{year:02d}-0{month}-01,A,post,1.00,EUR,r\n" for year in range(90) for month in (1, 5, 9)), 0),
+                               ("refused", "2000-01-01,A,post,x,EUR,r\n" * 300, 4)):
+        run("rerun", "--contracts", "c.csv", "--postings", put("p.csv", HEAD + rows), "--html", f"{name}.html", status=status)
+        page = pathlib.Path(f"{name}.html").read_text()
+        same((page.count("<section"), page.count("</section>"), page.count('class="lane"')), (1, 1, 0 if name in ("none",) else 16))
+    has(page, "These are the first 100 of 300")
+
+
 def main():
     with tempfile.TemporaryDirectory() as folder:
         os.chdir(folder)
-        for part in (examples, forms, rows, blocks, texts, spellings, cards, contracts_and_commands, statements, pages):
+        for part in (examples, forms, rows, spellings, cards, contracts_and_commands, statements, pages, shapes):
             part()
     print(f"command: {passed} checks passed, over {pathlib.Path(morskebab.__file__).parent}")
 

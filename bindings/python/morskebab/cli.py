@@ -17,6 +17,8 @@ from .contracts import Unsound
 from .report import NOT_UNDERSTOOD, READING_FAILED, write_csv, write_json, write_refused, write_table
 from .tables import NotATable, Table
 
+PAYOUTS = ("partner", "amount")
+
 STATUSES = """exit status: 0 all went well; 1 a check of a report failed; 2 the command, the contracts or a file's columns were not understood; 3 reading or
 writing failed; 4 the reports are whole and their checks are ok, but a row was refused or not understood, or the last line is unended."""
 
@@ -113,8 +115,9 @@ def written(path: str) -> Iterator[TextIO]:
 
 
 def columns_of(words: argparse.Namespace) -> tuple[dict[str, dict[str, str]], dict[str, bool]]:
+    """What the command and its small file say that the files call their columns and kinds."""
     columns, kinds = settings(words.columns) if words.columns else ([], [])
-    known = {"contracts": _contracts.COLUMNS, "postings": _rerun.COLUMNS}
+    known = {"contracts": _contracts.COLUMNS, "postings": _rerun.COLUMNS, "payouts": PAYOUTS}
     return said(columns + words.column, known), kinds_of(kinds + words.kind)
 
 
@@ -138,7 +141,16 @@ def again(words: argparse.Namespace, pictured: bool = False) -> _rerun.Quarter:
         progress.end()
 
 
+def not_over(words: argparse.Namespace) -> None:
+    """No file that is read is written over."""
+    for path in (words.html, words.refused):
+        for read in (words.contracts, words.postings):
+            if path is not None and os.path.exists(path) and os.path.exists(read) and os.path.samefile(path, read):
+                raise Misspoken(f"{path} is read, and would be written over")
+
+
 def do_rerun(words: argparse.Namespace) -> int:
+    not_over(words)
     quarter = again(words, pictured=words.html is not None)
     if words.html is not None:
         from .page import write_page
@@ -152,16 +164,18 @@ def do_rerun(words: argparse.Namespace) -> int:
     sys.stdout.flush()
     if words.csv and quarter.listed:
         where = f"they are in {words.refused}" if words.refused else "--refused FILE lists them"
-        print(f"morskebab: {quarter.listed} rows were refused or not understood; {where}", file=sys.stderr)
+        tell(f"{quarter.listed} rows were refused or not understood; {where}", 0)
+    if quarter.backward > quarter.onward:
+        tell("most rows are of an earlier day than the row before them: rows go in the file's order, which should be the oldest first", 0)
     return quarter.status
 
 
-def add_files(parser: argparse.ArgumentParser, postings: bool = True) -> None:
+def add_files(parser: argparse.ArgumentParser, postings: bool = True, required: bool = True) -> None:
     """The options that say what is read."""
-    parser.add_argument("--contracts", required=True, metavar="C.csv", help="book, currency, from, partner, weight: a row for each partner of a card")
+    parser.add_argument("--contracts", required=required, metavar="C.csv", help="book, currency, from, partner, weight: a row for each partner of a card")
     if postings:
         parser.add_argument("--postings", required=True, metavar="P.csv", help="time, book, kind, amount, currency, reference; - is standard input")
-    parser.add_argument("--column", action="append", default=[], metavar="NAME=COLUMN", help="what the files call a column; contracts.NAME and postings.NAME speak of one file")
+    parser.add_argument("--column", action="append", default=[], metavar="NAME=COLUMN", help="what the files call a column; contracts.NAME speaks of one file")
     parser.add_argument("--kind", action="append", default=[], metavar="post=WORD", help="another word for a posting, or (refund=WORD) for a refund")
     parser.add_argument("--columns", metavar="FILE", help="a file of such lines: NAME = COLUMN, kind refund = WORD")
     parser.add_argument("--encoding", metavar="NAME", help="of files without a byte order mark (UTF-8)")

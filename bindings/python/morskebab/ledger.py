@@ -130,7 +130,7 @@ class Ledger:
 
     def turn(self, day: str, batch: Batch) -> list[tuple[int, int]]:
         """The book on the card that holds on the day, which is not before the present card's; what `flush` says of the rows before."""
-        if self._pictured and self.day and day != self.day:
+        if self._pictured and self.day and day != self.day and len(self._marks) < POINTS:
             self._marks.append((len(self.coefficients), self.day))
         self.day = day
         self.first_day, self.last_day = min(self.first_day or day, day), max(self.last_day, day)

@@ -30,10 +30,9 @@ def book_of(contracts: dict[str, Contract], name: str | None, path: str) -> Cont
     return found
 
 
-def payouts_of(words: argparse.Namespace, contract: Contract, separator: str | None) -> list[tuple[int, int]]:
+def payouts_of(words: argparse.Namespace, contract: Contract, named: dict[str, str], separator: str | None) -> list[tuple[int, int]]:
     """The rows of a file of payouts: each partner's place and the coefficient."""
-    named = dict(word.split("=", 1) for word in words.column if "=" in word)
-    table = Table(words.payouts, {name: named.get(f"payouts.{name}", named.get(name, name)) for name in ("partner", "amount")}, words.encoding, separator)
+    table = Table(words.payouts, {name: named.get(name, name) for name in ("partner", "amount")}, words.encoding, separator)
     found: list[tuple[int, int]] = []
     faults: list[tuple[int, str]] = []
     for block in table.blocks():
@@ -65,13 +64,11 @@ def do_statement(words: argparse.Namespace) -> int:
     from .cli import again, columns_of, separator_of
 
     status = ALL_WELL
-    separator = separator_of(words)
+    separator, named = separator_of(words), columns_of(words)[0]
+    contract = book_of(_contracts.read(words.contracts, named["contracts"], words.encoding, separator), words.book, words.contracts)
     if words.payouts is not None:
-        named = {name: column for name, _, column in (word.partition("=") for word in words.column) if name in _contracts.COLUMNS}
-        contract = book_of(_contracts.read(words.contracts, named, words.encoding, separator), words.book, words.contracts)
-        payouts = payouts_of(words, contract, separator)
+        payouts = payouts_of(words, contract, named["payouts"], separator)
     else:
-        book_of(_contracts.read(words.contracts, columns_of(words)[0]["contracts"], words.encoding, separator), words.book, words.contracts)
         quarter = again(words)
         contract = book_of({ledger.contract.name: ledger.contract for ledger in quarter.books}, words.book, words.contracts)
         ledger = next(ledger for ledger in quarter.books if ledger.contract is contract)
@@ -106,6 +103,8 @@ def put(path: str, contract: Contract, payouts: list[tuple[int, int]], append: b
 
 def do_view(words: argparse.Namespace) -> int:
     """Prints the records of the statement that a file ends in."""
+    from .cli import columns_of, separator_of
+
     with open(words.file, "rb") as file:
         file.seek(max(0, os.fstat(file.fileno()).st_size - ROOM))
         data = file.read()
@@ -119,7 +118,7 @@ def do_view(words: argparse.Namespace) -> int:
     code, digits = (line.code, line.digits) if line else ("", 0)
     partners: list[str] = []
     if words.contracts is not None:
-        contract = book_of(_contracts.read(words.contracts, None, words.encoding), words.book, words.contracts)
+        contract = book_of(_contracts.read(words.contracts, columns_of(words)[0]["contracts"], words.encoding, separator_of(words)), words.book, words.contracts)
         if line and contract.code != code:
             print(f"morskebab: {words.file}: the statement is in {code}, and book {shown(contract.name)} in {contract.code}", file=sys.stderr)
             return NOT_ALL_ACCEPTED
@@ -156,9 +155,8 @@ def add_commands(commands: Any, add_files: Callable[..., None]) -> None:
     one.set_defaults(do=do_statement)
     two = commands.add_parser("view", help="reads the statement that a file ends in")
     two.add_argument("file", metavar="FILE")
-    two.add_argument("--contracts", metavar="C.csv", help="for the partners' names")
+    add_files(two, postings=False, required=False)
     two.add_argument("--book", metavar="NAME", help="the book, where the contracts have several")
-    two.add_argument("--encoding", metavar="NAME", help="of the contracts (UTF-8)")
     form = two.add_mutually_exclusive_group()
     form.add_argument("--csv", action="store_true", help="a row for each record")
     form.add_argument("--json", action="store_true", help="one object, by the schema of docs/PACKAGES.md")

@@ -80,6 +80,8 @@ class Quarter:
         self.books = list(ledgers.values())
         self.nowhere = Counts()
         self.rows = self.lines = self.listed = 0
+        # rows of a later and of an earlier day than the row before them on their book
+        self.onward = self.backward = 0
         self.unended = self.unended_contracts = False
         self.failed = ""
         self._spool = tempfile.TemporaryFile("w+", encoding="utf-8", errors="surrogatepass", newline="\n")  # noqa: SIM115
@@ -170,6 +172,8 @@ class _Run:
         if day is None or not CLOCK.fullmatch(when[10:16]) or not SECONDS.fullmatch(when[16:]):
             self.refuse(line, row, ledger, 0, f"{shown(when)!r} is no time of the form 2023-01-31T23:59:59")
             return
+        self.quarter.onward += day > ledger.day
+        self.quarter.backward += day < ledger.day
         if day < ledger.part.day:
             self.refuse(line, row, ledger, 0, f"its day is before {ledger.part.day}, from which card {ledger.part.number} of the book holds")
             return
