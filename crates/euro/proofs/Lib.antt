@@ -1,5 +1,6 @@
 pub mod Magnitudes
 pub mod Settled
+pub mod Through
 pub mod HalfUnit
 pub mod Opposite
 pub mod SameCurrency

@@ -1,3 +1,4 @@
 pub mod Steps
 pub mod Conversion
+pub mod Through
 pub mod ThereAndBack

@@ -22,7 +22,8 @@ ghost use Rattle.rounding.specs.Product.{capped};
 ghost use Rattle.amount.specs.Amounts.{largest, meansAmount};
 ghost use Rattle.currency.specs.Table.{lastCurrency, lineOf};
 ghost use Rattle.euro.specs.Steps.{toEuro, fromEuro, mostDecimals};
-ghost use Rattle.euro.specs.Conversion.{convertRows, settled, throughEuro, exchanged, converted, convertBySaid, convertSaid};
+ghost use Rattle.euro.specs.Conversion.{convertRows, settled, exchanged, converted, convertBySaid, convertSaid};
+ghost use Rattle.euro.specs.Through.{decimalsOf, intoEuro, outOfEuro};
 
 // The euro's currency number.
 const EURO: u8 = 0;
@@ -68,30 +69,49 @@ fn settle(to: Currency, negative: bool, m: u64) -> Answer
     })
 }
 
-// Old unit to old unit: through the euro at so many decimals; refusal 13 where that step or the result is over L.
-fn through_euro(decimals: u8, from: Currency, to: Currency, negative: bool, m: u64) -> Answer
-    requires { ⌜ (decimals ≤ mostDecimals) × (from .0 ≤ lastCurrency) × (to .0 ≤ lastCurrency) × (m ≤ largest) ⌝ }
-    ensures { λ r. ⌜ meansAmount r ≡ throughEuro decimals from to (signedOf negative m) ⌝ }
+// The decimals of the number in euro: a euro amount has cents, and between two old units they are chosen.
+fn step_decimals(decimals: u8, from: Currency, to: Currency) -> u8
+    ensures { λ r. ⌜ r ≡ decimalsOf decimals from to ⌝ }
 {
-    let step = to_euro(from, decimals, negative, m);
+    if from.0 == EURO {
+        return CENTS;
+    }
+    if to.0 == EURO { CENTS } else { decimals }
+}
+
+// The number in euro, of a euro amount the amount's own; as the leaf gives it.
+fn into_euro(decimals: u8, from: Currency, negative: bool, m: u64) -> u64
+    requires { ⌜ (from .0 ≤ lastCurrency) × (decimals ≤ mostDecimals) × (m ≤ largest) ⌝ }
+    ensures { λ r. ⌜ r ≡ capped (magnitudeOf (intoEuro decimals from (signedOf negative m))) ⌝ }
+{
+    if from.0 == EURO {
+        return m;
+    }
+    to_euro(from, decimals, negative, m)
+}
+
+// And out of it, as the leaf gives it.
+fn out_of_euro(decimals: u8, to: Currency, negative: bool, m: u64) -> u64
+    requires { ⌜ (to .0 ≤ lastCurrency) × (decimals ≤ mostDecimals) × (m ≤ largest) ⌝ }
+    ensures { λ r. ⌜ r ≡ capped (magnitudeOf (outOfEuro decimals to (signedOf negative m))) ⌝ }
+{
+    if to.0 == EURO {
+        return m;
+    }
+    from_euro(to, decimals, negative, m)
+}
+
+// Between two currencies that differ: into euro and out of it; refusal 13 where the number in euro or the result is over L.
+fn exchange(decimals: u8, from: Currency, to: Currency, negative: bool, m: u64) -> Answer
+    requires { ⌜ (decimals ≤ mostDecimals) × (from .0 ≤ lastCurrency) × (to .0 ≤ lastCurrency) × (m ≤ largest) × (from .0 ≡ to .0 → ⊥) ⌝ }
+    ensures { λ r. ⌜ meansAmount r ≡ exchanged decimals from to (signedOf negative m) ⌝ }
+{
+    let places = step_decimals(decimals, from, to);
+    let step = into_euro(places, from, negative, m);
     if Amount::L < step {
         return Answer::Refused(Refusal::Limit);
     }
-    settle(to, negative, from_euro(to, decimals, negative, step))
-}
-
-// Between two currencies that differ.
-fn exchange(decimals: u8, from: Currency, to: Currency, negative: bool, m: u64) -> Answer
-    requires { ⌜ (decimals ≤ mostDecimals) × (from .0 ≤ lastCurrency) × (to .0 ≤ lastCurrency) × (m ≤ largest) ⌝ }
-    ensures { λ r. ⌜ meansAmount r ≡ exchanged decimals from to (signedOf negative m) ⌝ }
-{
-    if from.0 == EURO {
-        return settle(to, negative, from_euro(to, CENTS, negative, m));
-    }
-    if to.0 == EURO {
-        return settle(to, negative, to_euro(from, CENTS, negative, m));
-    }
-    through_euro(decimals, from, to, negative, m)
+    settle(to, negative, out_of_euro(places, to, negative, step))
 }
 
 fn check(decimals: u8, scale: u8, m: u64, from: Currency, to: Currency) -> Checked

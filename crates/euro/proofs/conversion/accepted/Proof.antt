@@ -61,7 +61,7 @@ exchange-requires c κs =
     let s = c .before .before .before .before .before in
     let a = s .args in
     let limits = within (a .decimals) (a .scale) (magnitudeOf (a .coefficient)) (a .from) (a .to) (s .pre) in
-    (limits .0, limits .1, limits .2, rw (asked c .1) (limits .3))
+    (limits .0, limits .1, limits .2, rw (asked c .1) (limits .3), c .before .before .if1 .left)
 
 returns-2 : tie.Need-returns-2
 unfolding converted
