@@ -92,6 +92,7 @@ pub enum Found {
     Refused(Refusal),
 }
 
+// The same for a file of either version.
 pub enum FoundAny {
     Value(SummaryOfAny),
     Refused(Refusal),
