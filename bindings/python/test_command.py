@@ -221,8 +221,14 @@ def statements():
     has(run("view", "out.mkb")[0], "place 0", "0.67", "place 1")
     run("statement", "--contracts", "c.csv", "--payouts", put("q.csv", "partner,amount\nYvonne,-12.50\nYvonne,1.00\n"), "--book", "A", "--append", "out.mkb")
     same(json.loads(run("view", "out.mkb", "--contracts", "c.csv", "--book", "A", "--json")[0]),
-         {"schema": "morskebab-view-1", "currency": "EUR", "count": 2, "sum": "-11.50", "records": [{"place": 1, "partner": "Yvonne", "amount": "-12.50"}, {"place": 1, "partner": "Yvonne", "amount": "1.00"}]})
-    same(run("view", "out.mkb", "--contracts", "c.csv", "--book", "A", "--csv")[0], "place,partner,currency,amount\n1,Yvonne,EUR,-12.50\n1,Yvonne,EUR,1.00\n")
+         {"schema": "morskebab-view-1", "version": 1, "currency": "EUR", "count": 2, "sum": "-11.50",
+          "records": [{"place": 1, "partner": "Yvonne", "amount": "-12.50", "reason": 0}, {"place": 1, "partner": "Yvonne", "amount": "1.00", "reason": 0}]})
+    same(run("view", "out.mkb", "--contracts", "c.csv", "--book", "A", "--csv")[0], "place,partner,currency,amount,reason\n1,Yvonne,EUR,-12.50,0\n1,Yvonne,EUR,1.00,0\n")
+    run("statement", "--contracts", "c.csv", "--payouts", put("q.csv", "reason,partner,amount\n7,Xaver,-12.50\n99,Yvonne,1.00\n"), "--book", "A", "two.mkb")
+    has(run("view", "two.mkb", "--contracts", "c.csv", "--book", "A")[0], "partner", "EUR", "reason", "Xaver", "-12.50", "7", "Yvonne", "1.00", "99", "2 records", "-11.50")
+    same((pathlib.Path("two.mkb").stat().st_size, json.loads(run("view", "two.mkb", "--json")[0])["version"]), (72, 2))
+    has(run("statement", "--contracts", "c.csv", "--payouts", put("q.csv", "reason,partner,amount\n100,Xaver,1.00\n,Xaver,1.00\n"), "--book", "A", "two.mkb", status=2)[1],
+        "line 2: '100' is no reason", "line 3: ''")
     stood = pathlib.Path("out.mkb").read_bytes()
     has(run("statement", "--contracts", "c.csv", "--payouts", put("q.csv", "partner,amount\nNobody,1.00\nXaver,1.0\nXaver,01.00\n"), "--book", "A", "out.mkb", status=2)[1],
         "q.csv: line 2: book A has no partner 'Nobody'", "line 3: '1.0' has 1 digits", "line 4: refusal 14")

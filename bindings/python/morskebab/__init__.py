@@ -51,8 +51,8 @@ ACTUAL_360, ACTUAL_365, THIRTY_360_AMERICAN, THIRTY_360_EUROPEAN = Basis
 
 # what `help` tells of and `import *` takes
 __all__ = [
-    "Amount", "Basis", "Book", "Columns", "Date", "Line", "Moved", "Payout", "Ran", "Refused", "Split", "Statement", "View",
-    "check_statement", "currency_line", "currency_of", "day_count", "plain_quotient", "take_row", "vouchers", "write_statement",
+    "Amount", "AnyStatement", "AnyView", "Basis", "Book", "Columns", "Date", "Line", "Moved", "Payout", "Ran", "Reasoned", "Refused", "Split", "Statement", "View",
+    "check_any", "check_statement", "currency_line", "currency_of", "day_count", "plain_quotient", "take_row", "vouchers", "write_reasons", "write_statement",
     "EUR", "BEF", "DEM", "ESP", "FRF", "IEP", "ITL", "LUF", "NLG", "ATS", "PTE", "FIM", "GRD", "SIT", "CYP", "MTL", "SKK", "EEK", "LVL", "LTL", "HRK",
     "UP", "DOWN", "CEILING", "FLOOR", "HALF_UP", "HALF_DOWN", "HALF_EVEN", "ACTUAL_360", "ACTUAL_365", "THIRTY_360_AMERICAN", "THIRTY_360_EUROPEAN",
     "L", "SCALE", "PERIODS", "TEXT", "REASONS", "VERSION",

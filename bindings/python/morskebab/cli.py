@@ -17,7 +17,7 @@ from .contracts import Unsound
 from .report import NOT_UNDERSTOOD, READING_FAILED, write_csv, write_json, write_refused, write_table
 from .tables import NotATable, Table
 
-PAYOUTS = ("partner", "amount")
+PAYOUTS = ("partner", "amount", "reason")
 
 STATUSES = """exit status: 0 all went well; 1 a check of a report failed; 2 the command, the contracts or a file's columns were not understood; 3 reading or
 writing failed; 4 the reports are whole and their checks are ok, but a row was refused or not understood, or the last line is unended."""

@@ -124,9 +124,10 @@ def _picture(ledger: Ledger) -> Iterator[str]:
     points = sorted(ledger.points, key=lambda point: point[0])
     if not points:
         return
-    first, last = _ordinal(points[0][0]), _ordinal(points[-1][0])
+    # the last day has its width too
+    first, last = _ordinal(points[0][0]), _ordinal(points[-1][0]) + 1
     unit, cards = amount(1, ledger.contract.digits), len(ledger.parts)
-    turns = [_place(_ordinal(part.day), first, last) for part in ledger.parts[1:] if first < _ordinal(part.day) <= last]
+    turns = [_place(_ordinal(part.day), first, last) for part in ledger.parts[1:] if first < _ordinal(part.day) < last]
     yield "<h3>Distance from the exact share</h3><figure>"
     ends = [f"{signed(f.distance)}" for f in together(ledger)]
     for place, name in enumerate(ledger.contract.partners):
@@ -155,14 +156,12 @@ def _lane(points: list[tuple[int, float]], bound: int, turns: list[int]) -> str:
 
 
 def _ticks(first: int, last: int) -> Iterator[str]:
-    """The first day, and the firsts of months, as many as there is room for."""
-    days = [day for day in range(first + 1, last + 1) if datetime.date.fromordinal(day).day == 1]
-    days = [first, *days[:: len(days) // TICKS + 1]]
-    # a month that begins right behind the first day would stand upon it
-    for day in [day for day in days if day == first or _place(day, first, last) > WIDE // 6]:
-        place = 0 if day == first else _place(day, first, last) / WIDE * 100
-        end = ' class="end"' if place > 85 else ""
-        yield f'<span{end} style="left:{place:.1f}%">{datetime.date.fromordinal(day).isoformat()}</span>'
+    """The first day and the last, and between them the firsts of months, as many as there is room for."""
+    months = [day for day in range(first + 1, last) if datetime.date.fromordinal(day).day == 1]
+    months = [day for day in months[:: len(months) // TICKS + 1] if WIDE // 5 < _place(day, first, last) < WIDE * 3 // 5]
+    for place, day, kind in [(0.0, first, ""), *((_place(day, first, last) / WIDE * 100, day, "") for day in months), (100.0, last - 1, ' class="end"')]:
+        if not kind or last - first > 1:
+            yield f'<span{kind} style="left:{place:.1f}%">{datetime.date.fromordinal(day).isoformat()}</span>'
 
 
 def _refused(rows: list[Listed], count: int) -> Iterator[str]:

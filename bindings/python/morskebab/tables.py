@@ -77,9 +77,10 @@ def said(error: str) -> str:
 
 
 class Table:
-    """A CSV file with a header: `blocks` gives its rows. `columns` says of each name that is needed what the header calls it."""
+    """A CSV file with a header: `blocks` gives its rows. `columns` says of each name that is needed what the header calls it, and `perhaps` has the
+    names of columns that may be missing, whose place is then None."""
 
-    def __init__(self, path: str, columns: Mapping[str, str], encoding: str | None = None, separator: str | None = None) -> None:
+    def __init__(self, path: str, columns: Mapping[str, str], encoding: str | None = None, separator: str | None = None, perhaps: Sequence[str] = ()) -> None:
         self.name = "standard input" if path == "-" else path
         self._stream = opened(path, encoding)
         self._carry = ""
@@ -89,6 +90,7 @@ class Table:
         header = self._header(columns, separator or SEPARATORS)
         self.width = len(header)
         self.places = [self._place(header, column) for column in columns.values()]
+        self.perhaps = [self._place(header, column) if tidy(column) in header else None for column in perhaps]
 
     def _header(self, columns: Mapping[str, str], separators: str) -> list[str]:
         """The first line that isn't empty, by the separator that shows most of the columns."""
