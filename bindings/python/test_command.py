@@ -11,6 +11,7 @@ import sys
 import tempfile
 
 import morskebab
+from morskebab import tables
 from morskebab.cli import main as command
 
 ROOT = pathlib.Path(__file__).resolve().parents[2]
@@ -179,12 +180,17 @@ def cards():
     has(run("rerun", "--contracts", put("c.csv", CONTRACTS), "--postings", "p.csv")[1], "the oldest first")
 
 
+def broken():
+    raise OSError(5, "a test")
+
+
 def contracts_and_commands():
     """Nothing is run by contracts that aren't sound; each fault has its line."""
     put("p.csv", HEAD)
     for held, *parts in (
         (CONTRACTS + "A,EUR,2023-01-01,Xaver,3\n", "line 5: book A has partner Xaver from 2023-01-01 already, on the card that begins on line 2"),
-        (CONTRACTS + "A,DEM,2023-02-01,Xaver,3\n", "line 5: book A is in EUR by line 2, and here in DEM"), (CONTRACTS + "D,EUR,2023-02-30,X,3\nD,EUR,2023-02-01,X,-1\n", "line 5: '2023-02-30'", "line 6: '-1'"),
+        (CONTRACTS + "A,DEM,2023-02-01,Xaver,3\n", "line 5: book A is in EUR by line 2, and here in DEM"),
+        (CONTRACTS + "D,EUR,2023-02-30,X,3\nD,EUR,2023-02-01,X,-1\n", "line 5: '2023-02-30'", "line 6: '-1'"),
         (CONTRACTS + "D,XXX,2023-02-01,X,3\n", "line 5: book D", "refusal 4", "'XXX'"), (CONTRACTS + "D,EUR,2023-02-01,X,0\n", "line 5: book D from 2023-02-01: refusal 9"),
         (CONTRACTS + "D,EUR,2023-02-01,X,10001\n", "refusal 9"), (CONTRACTS + "D,EUR\n", "line 5: the row has 2 fields"), (CONTRACTS + "\"D,EUR,2023-02-01,X,1\n", "line 5: a quote is opened"),
         (CONTRACTS + ",EUR,2023-02-01,X,1\n", "line 5: the book has no name"), (CONTRACTS + "".join(f"D,EUR,2023-02-01,P{i},1\n" for i in range(17)), "line 5: book D has 17 partners"),
@@ -196,9 +202,12 @@ def contracts_and_commands():
         has(told, "morskebab: c.csv: ", *parts)
     put("c.csv", CONTRACTS)
     for words, status, *parts in (
-        ([], 2, "COMMAND"), (["rerun"], 2, "--contracts"), (["rerun", "--contracts", "c.csv", "--postings", "none.csv"], 3, "none.csv: No such file"), (["rerun", "--contracts", "c.csv", "--postings", "."], 3, "directory"),
-        (["rerun", "--contracts", "c.csv", "--postings", "p.csv", "--encoding", "klingon"], 2, "klingon"), (["rerun", "--contracts", "c.csv", "--postings", "p.csv", "--column", "colour=red"], 2, "colour=red"),
+        ([], 2, "COMMAND"), (["rerun"], 2, "--contracts"), (["rerun", "--contracts", "c.csv", "--postings", "none.csv"], 3, "none.csv: No such file"),
+        (["rerun", "--contracts", "c.csv", "--postings", "."], 3, "directory"),
+        (["rerun", "--contracts", "c.csv", "--postings", "p.csv", "--encoding", "klingon"], 2, "klingon"),
+        (["rerun", "--contracts", "c.csv", "--postings", "p.csv", "--column", "colour=red"], 2, "colour=red"),
         (["rerun", "--contracts", "c.csv", "--postings", "p.csv", "--kind", "sale"], 2, "sale"), (["rerun", "--contracts", "c.csv", "--postings", "p.csv", "--html", "none/x.html"], 3, "No such file"),
+        (["rerun", "--contracts", "c.csv", "--postings", "/proc/self/mem"], 3, "/proc/self/mem: Input/output error"),
         (["rerun", "--contracts", "c.csv", "--postings", "p.csv", "--html", "p.csv"], 2, "p.csv is read, and would be written over"),
         (["rerun", "--contracts", "c.csv", "--postings", "c.csv"], 2, "c.csv: line 1: there is no column 'time', 'kind', 'amount', 'reference'; the columns are: book"),
     ):
@@ -206,6 +215,11 @@ def contracts_and_commands():
         has(told, "morskebab: ", *parts)
     out, _ = run("rerun", "--contracts", "c.csv", "--postings", "-", "--json", given=(HEAD + "2023-01-01,A,post,1.00,EUR,r\n").encode())
     same(json.loads(out)["rows"], 1)
+    stood = tables.Table._taken
+    tables.Table._taken = lambda table, read, most: broken() if table.read > 10**6 else stood(table, read, most)
+    report = rerun(HEAD + "2023-01-01,A,post,1.00,EUR,r\n" * 60000, status=3)
+    tables.Table._taken = stood
+    same((report["failed"], 0 < report["rows"] < 60000, report["rows"]), ("[Errno 5] a test", True, report["books"][0]["cards"][0]["rows"]["accepted"]))
     has(run("--version")[0], "morskebab ")
     has(run("--help")[0], "rerun", "statement", "view", "exit status")
 
@@ -262,7 +276,8 @@ def pages():
 def shapes():
     """Pages of no rows, of sixteen partners, of many years, of many refused rows."""
     put("c.csv", "book,currency,from,partner,weight\n" + "".join(f"A,EUR,2000-01-01,P{place},{place}\n" for place in range(1, 17)))
-    for name, rows, status in (("none", "", 0), ("one", "2000-01-01,A,post,1.00,EUR,r\n", 0), ("years", "".join(f"20{year:02d}-0{month}-01,A,post,1.00,EUR,r\n" for year in range(90) for month in (1, 5, 9)), 0),
+    years = "".join(f"20{year:02d}-0{month}-01,A,post,1.00,EUR,r\n" for year in range(90) for month in (1, 5, 9))
+    for name, rows, status in (("none", "", 0), ("one", "2000-01-01,A,post,1.00,EUR,r\n", 0), ("years", years, 0),
                                ("refused", "2000-01-01,A,post,x,EUR,r\n" * 300, 4)):
         run("rerun", "--contracts", "c.csv", "--postings", put("p.csv", HEAD + rows), "--html", f"{name}.html", status=status)
         page = pathlib.Path(f"{name}.html").read_text()

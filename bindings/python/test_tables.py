@@ -1,7 +1,9 @@
-"""What the command reads by, tried on random files and texts: CSV cut into blocks at any place, and the quick way of an amount's text. Prints how many
-checks passed."""
+"""What the command reads and checks by: CSV cut into blocks at any place, the quick way of an amount's text, both on random files and texts, and that a
+report's check fails where a payout, a total or a sum is wrong. Prints how many checks passed."""
 from __future__ import annotations
 
+import contextlib
+import io
 import os
 import pathlib
 import random
@@ -9,6 +11,9 @@ import tempfile
 
 import morskebab
 from morskebab import ledger, tables
+from morskebab.cli import main as command
+from morskebab.report import check_of_book
+from morskebab.rerun import rerun
 
 passed = 0
 
@@ -69,10 +74,33 @@ def amount_near(source, digits):
     return whole + ("." + "".join(source.choices("0123456789", k=source.choice([digits, digits, digits, 1, 3, 7]))) if source.random() < 0.9 and digits else "")
 
 
+def checks():
+    """One unit too many in a payout, and a book that counts a row twice, fail the check, and no statement is written of them."""
+    pathlib.Path("c.csv").write_text("book,currency,from,partner,weight\nA,EUR,2023-01-01,X,2\nA,EUR,2023-01-01,Y,1\n")
+    pathlib.Path("p.csv").write_text("time,book,kind,amount,currency,reference\n2023-01-01,A,post,1.00,EUR,r\n2023-01-02,A,refund,0.10,EUR,r\n")
+    stood = ledger.Batch.run
+
+    def one_too_many(batch, book, refunds, coefficients):
+        after = stood(batch, book, refunds, coefficients)
+        batch.payouts[wrong] += 1
+        return after
+
+    def twice(batch, book, refunds, coefficients):
+        return stood(batch, stood(batch, book, refunds, coefficients), refunds, coefficients)
+
+    same(rerun("c.csv", "p.csv").status, 0)
+    for ledger.Batch.run, wrong, partner in ((one_too_many, 0, "X"), (one_too_many, 1, "Y"), (one_too_many, 17, "Y"), (twice, 0, "X")):
+        quarter = rerun("c.csv", "p.csv", pictured=True)
+        same((quarter.status, check_of_book(quarter.books[0])), (1, f"FAILED {partner}"))
+        with contextlib.redirect_stderr(io.TextIOWrapper(io.BytesIO())):
+            same((command(["statement", "--contracts", "c.csv", "--postings", "p.csv", "out.mkb"]), os.path.exists("out.mkb")), (1, False))
+    ledger.Batch.run = stood
+
+
 def main():
     with tempfile.TemporaryDirectory() as folder:
         os.chdir(folder)
-        for part in (blocks, texts):
+        for part in (blocks, texts, checks):
             part()
     print(f"tables: {passed} checks passed")
 

@@ -20,7 +20,7 @@ from typing import Any, NamedTuple
 
 from . import REASONS, Amount, Refused, currency_of
 from . import contracts as _contracts
-from .contracts import Contract, day_of, name_of
+from .contracts import day_of, name_of
 from .ledger import Amounts, Batch, Counts, Ledger
 from .report import ALL_WELL, CHECK_FAILED, NOT_ALL_ACCEPTED, READING_FAILED, check_of_book
 from .tables import EMPTY, Block, Table, shown, tidy, undecoded
@@ -41,8 +41,9 @@ WHY = {
     13: "the amount, or the book's total with it, is over the largest amount",
     14: "the amount's text isn't of the form 12.50",
 }
-# the most of a word that is listed
+# the most of a word that is listed, and the rows of a book that a page shows
 WORD = 1000
+FIRST = 100
 
 
 class Met(dict):
@@ -87,12 +88,12 @@ class Quarter:
         self._spool = tempfile.TemporaryFile("w+", encoding="utf-8", errors="surrogatepass", newline="\n")  # noqa: SIM115
         self.first: dict[str, list[Listed]] = {}
 
-    def list(self, rows: list[Listed], kept: int) -> None:
+    def note(self, rows: list[Listed], kept: int) -> None:
         """Lists rows, in the order of their lines; the first of each book are kept at hand."""
         for row in sorted(rows):
             self.listed += 1
             self._spool.write(json.dumps(row) + "\n")
-            held = self.first.setdefault(row.book, []) if row.book in self.first or len(self.first) <= len(self.books) else []
+            held = self.first.setdefault(row.book, [])
             if len(held) < kept:
                 held.append(row)
 
@@ -115,7 +116,7 @@ class Quarter:
 class _Run:
     """The reading of the postings."""
 
-    def __init__(self, table: Table, contracts: Mapping[str, Contract], quarter: Quarter, ledgers: dict[str, Ledger], kinds: Mapping[str, bool]) -> None:
+    def __init__(self, table: Table, quarter: Quarter, ledgers: dict[str, Ledger], kinds: Mapping[str, bool]) -> None:
         self.table, self.quarter, self.ledgers = table, quarter, ledgers
         self.batch = Batch()
         self.by_spelling = dict(ledgers)
@@ -209,7 +210,7 @@ class _Run:
         """The lines that are no rows, and then all of the block that is listed."""
         for fault in block.faults:
             self.refuse(fault.line, fault.words, None, 0, fault.reason)
-        self.quarter.list(self.listed, 100)
+        self.quarter.note(self.listed, FIRST)
         self.listed = []
 
 
@@ -259,7 +260,7 @@ def rerun(contracts: str, postings: str, *, columns: Mapping[str, Mapping[str, s
     ledgers = {name: Ledger(contract, amounts.setdefault(contract.digits, Amounts(contract.digits)), pictured) for name, contract in held.items()}
     table = Table(postings, {name: named.get("postings", {}).get(name, name) for name in COLUMNS}, encoding, separator)
     quarter = Quarter(contracts, postings, ledgers)
-    run = _Run(table, held, quarter, ledgers, KINDS if kinds is None else kinds)
+    run = _Run(table, quarter, ledgers, KINDS if kinds is None else kinds)
     with uncollected():
         try:
             for block in table.blocks():

@@ -7,7 +7,7 @@ import csv
 import io
 import re
 import sys
-from collections.abc import Iterator, Mapping, Sequence
+from collections.abc import Callable, Iterator, Mapping, Sequence
 from typing import BinaryIO, NamedTuple, TextIO
 
 # characters read at a time, no more than the most of a line; the most lines of a row, whose quotes may hold line ends; the most of a text that is shown
@@ -58,7 +58,10 @@ def undecoded(text: str) -> bool:
 def opened(path: str, encoding: str | None) -> TextIO:
     """The file as text by its byte order mark, else by the encoding, else UTF-8; `-` is standard input. Bytes that are none stay to be found."""
     raw: BinaryIO = sys.stdin.buffer if path == "-" else open(path, "rb")  # noqa: SIM115
-    first = raw.peek(4)[:4] if isinstance(raw, io.BufferedReader) else b""
+    try:
+        first = raw.peek(4)[:4] if isinstance(raw, io.BufferedReader) else b""
+    except OSError as error:
+        raise OSError(error.errno, error.strerror, path) from None
     marked = next((name for mark, name in MARKS if first.startswith(mark)), None)
     name = marked or encoding or "utf-8"
     wide = name.replace("_", "-").lower().startswith(("utf-16", "utf-32"))
@@ -94,13 +97,12 @@ class Table:
 
     def _header(self, columns: Mapping[str, str], separators: str) -> list[str]:
         """The first line that isn't empty, by the separator that shows most of the columns."""
-        text = self._stream.readline(LINE)
+        text = self._taken(self._stream.readline, LINE)
         while text == "\n" or SAID.fullmatch(text):
             said = SAID.fullmatch(text)
             separators = said[1] if said else separators
             self._line += 1
-            text = self._stream.readline(LINE)
-        self.read += len(text)
+            text = self._taken(self._stream.readline, LINE)
         if not text:
             raise NotATable(f"{self.name}: line {self._line}: there is no header, the file is empty")
         best: list[str] = []
@@ -138,7 +140,7 @@ class Table:
     def blocks(self) -> Iterator[Block]:
         """All rows behind the header."""
         while True:
-            text = self._read()
+            text = self._taken(self._stream.read, BLOCK)
             ended, last = not text, self._carry.rfind("\n") + 1
             if self._to_its_end(text) + len(self._carry) - last > LINE:
                 # rows that waited for a quote to close are ended by a line that is past every row's length
@@ -157,8 +159,12 @@ class Table:
             if ended:
                 return
 
-    def _read(self) -> str:
-        text = self._stream.read(BLOCK)
+    def _taken(self, read: Callable[[int], str], most: int) -> str:
+        """What is read; a failure names the file."""
+        try:
+            text = read(most)
+        except OSError as error:
+            raise OSError(error.errno, error.strerror, self.name) from None
         self.read += len(text)
         return text
 
@@ -173,7 +179,7 @@ class Table:
         words = (head + text)[:LINE].split("\n")[0].split(self._separator)
         length = len(head) + self._to_its_end(text)
         while text and "\n" not in text:
-            text = self._read()
+            text = self._taken(self._stream.read, BLOCK)
             length += self._to_its_end(text)
         self.unended = not text
         words[-1] = f"{words[-1][:SHOWN]}..(the line has {length} characters)"
