@@ -6,7 +6,7 @@
 #include "words.h"
 
 /* the most fields of a value */
-#define MOST_FIELDS 3
+#define MOST_FIELDS 4
 
 /* `blames` says whether the sister tells which date a refusal blames; `flaw` says more of a refused list, or is NULL; `absent`: the first field is null */
 typedef struct {

@@ -26,7 +26,7 @@ from interest import interest  # noqa: E402
 from refusals import Refusal  # noqa: E402
 from rounding import round_product, round_quotient  # noqa: E402
 from sharing import share  # noqa: E402
-from statements import opened_view, read_statement, records_of, write_statement  # noqa: E402
+from statements import opened_view, read_any, read_statement, records_of, write_reasons, write_statement  # noqa: E402
 from tax import net_for, split_from_net, tax_from_gross, tax_from_net  # noqa: E402
 from texts import read_text, text_of, write_text  # noqa: E402
 from vouchers import vouchers  # noqa: E402
@@ -113,6 +113,21 @@ def words_of(book: Book) -> tuple[int, list[str]]:
     return digits, [text_of(digits, book.net), currency(book.currency), array(book.weights[: book.count], "numeric")]
 
 
+def written(number: int, lists: list[list[int]], lent: bytearray, answer: tuple[Refusal | None, int]) -> Call:
+    """A statement from its first byte on, into just enough room."""
+    digits = CURRENCIES[number].digits if number < len(CURRENCIES) else 0
+    amounts = array((text_of(digits, each) for each in lists[-1]), "numeric")
+    return Call("statement", [currency(number), *(array(each, "integer") for each in lists[:-1]), amounts], filled(answer[0], "\\x" + lent.hex()))
+
+
+def viewed(view: Any, reasoned: bool) -> list[str | None]:
+    """The currency, the places, the reasons and the amounts of a statement's records."""
+    records = records_of(view)
+    line = CURRENCIES[records[0].currency] if records else None
+    columns = [listed(0, (each.place for each in records))] + [listed(0, (each.reason for each in records))] * reasoned
+    return [line.code if line else None, *columns, listed(line.digits if line else 0, (each.coefficient for each in records))]
+
+
 class Lines:
     """The call of each line in turn; keeps the current book."""
 
@@ -197,25 +212,25 @@ class Lines:
         return Call("export", amount(given), one(export(given), lambda bits: f"{bits:016x}"))
 
     def statement(self, number: int, start: int, room: int, lists: list[list[int]]) -> Call:
-        places, coefficients = lists
-        lent = bytearray(16 * len(places) + 24)
-        refusal, end = write_statement(number, places, coefficients, lent, 0)
-        digits = CURRENCIES[number].digits if number < len(CURRENCIES) else 0
-        words = [currency(number), array(places, "integer"), array((text_of(digits, each) for each in coefficients), "numeric")]
-        return Call("statement", words, filled(refusal, "\\x" + lent.hex()))
+        lent = bytearray(16 * len(lists[0]) + 24)
+        return written(number, lists, lent, write_statement(number, *lists, lent, 0))
+
+    def reasons(self, number: int, start: int, room: int, lists: list[list[int]]) -> Call:
+        lent = bytearray(24 * len(lists[0]) + 24)
+        return written(number, lists, lent, write_reasons(number, *lists, lent, 0))
 
     def check(self, data: bytes) -> Call:
         found = price(read_statement(data), lambda file: [str(file.first), str(file.count), str(file.sum)])
         return Call("check_statement", [f"'\\x{data.hex()}'"], found, fields=3)
 
-    def view(self, data: bytes) -> Call:
-        def fields(view: Any) -> list[str | None]:
-            records = records_of(view)
-            code = CURRENCIES[records[0].currency].code if records else None
-            digits = CURRENCIES[records[0].currency].digits if records else 0
-            return [code, listed(0, (each.place for each in records)), listed(digits, (each.coefficient for each in records))]
+    def check_any(self, data: bytes) -> Call:
+        return Call("check_any", [f"'\\x{data.hex()}'"], price(read_any(data), lambda file: list(map(str, file))), fields=4)
 
-        return Call("payouts", [f"'\\x{data.hex()}'"], price(opened_view(data), fields), fields=3)
+    def view(self, data: bytes) -> Call:
+        return Call("payouts", [f"'\\x{data.hex()}'"], price(opened_view(data), lambda view: viewed(view, False)), fields=3)
+
+    def view_any(self, data: bytes) -> Call:
+        return Call("any_payouts", [f"'\\x{data.hex()}'"], price(opened_view(data, read_any), lambda view: viewed(view, True)), fields=4)
 
     def open(self, number: int, *weights: int) -> Call:
         refusal, self.book = open_book(number, weights)
