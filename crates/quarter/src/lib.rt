@@ -29,8 +29,8 @@ pub enum Asked {
     Card,
     // an `open` or a `card` that is not understood
     Astray,
-    // a posting, or a refund where that is true, of an amount
-    Call(bool, Amount),
+    // a posting, or a refund where that is true, of an amount, with the code of a reason
+    Call(bool, Amount, u16),
     // a posting or a refund whose amount is a text that is refused with a number
     Refused(u8),
 }

@@ -91,7 +91,7 @@ fn pass_line(at: Gathering, read: Reading, asked: Asked) -> Gathering {
         Asked::Open => Met::Open,
         Asked::Card => Met::Card,
         Asked::Astray => Met::Astray,
-        Asked::Call(refund, amount) => Met::Call(refund, amount),
+        Asked::Call(refund, amount, _) => Met::Call(refund, amount),
         Asked::Refused(number) => Met::Refused(number),
         _ => Met::Nothing,
     };

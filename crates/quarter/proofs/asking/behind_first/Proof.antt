@@ -17,6 +17,15 @@ read-numbers-requires c κs = search needs
 enum-known-count : tie.Need-enum-known-count
 enum-known-count c = search needs
 
+slice-aggregate-u16-at : tie.Need-slice-aggregate-u16-at
+slice-aggregate-u16-at c = search needs
+
+slice-aggregate-u16-at-2 : tie.Need-slice-aggregate-u16-at-2
+slice-aggregate-u16-at-2 c = search needs
+
+u16-at-requires : tie.Need-u16-at-requires
+u16-at-requires c κs = search needs
+
 slice-aggregate-amount-at : tie.Need-slice-aggregate-amount-at
 slice-aggregate-amount-at c = search needs
 
@@ -38,8 +47,8 @@ in-words-requires c κs = search needs
 returns : tie.Need-returns
 unfolding behindFirst
 returns c =
-    let n = c .before .before .before .before .before .before .before .before .before .read-numbers .ensures in
-    rw (c .called-with .ensures, c .before .amount-at .ensures, n .1 .0, n .1 .1, sym (n .0) ∙ c .before .before .before .before .before .count .given .1)
+    let n = c .before .before .before .before .before .before .before .before .before .before .before .before .read-numbers .ensures in
+    rw (c .called-with .ensures, c .before .amount-at .ensures, c .before .before .before .before .u16-at .ensures, n .1 .0, n .1 .1, sym (n .0) ∙ c .before .before .before .before .before .before .before .before .count .given .1)
 
 returns-2 : tie.Need-returns-2
 unfolding behindFirst
@@ -55,6 +64,9 @@ behind-first-spec =
     slice-aggregate-read-numbers-2
     read-numbers-requires
     enum-known-count
+    slice-aggregate-u16-at
+    slice-aggregate-u16-at-2
+    u16-at-requires
     slice-aggregate-amount-at
     slice-aggregate-amount-at-2
     amount-at-requires

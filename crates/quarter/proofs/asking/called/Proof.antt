@@ -18,8 +18,8 @@ call-requires c κs = search needs
 enum-told-4 : tie.Need-enum-told-4
 enum-told-4 c = search needs
 
-call-requires-2 : tie.Need-call-requires-2
-call-requires-2 c κs = search needs
+refund-requires : tie.Need-refund-requires
+refund-requires c κs = search needs
 
 enum-told-5 : tie.Need-enum-told-5
 enum-told-5 c = search needs
@@ -34,7 +34,7 @@ returns-3 : tie.Need-returns-3
 returns-3 c = rw (c .call .ensures, c .before .enum-told3 .given .1)
 
 returns-4 : tie.Need-returns-4
-returns-4 c = rw (c .call2 .ensures, c .before .enum-told4 .given .1)
+returns-4 c = rw (c .refund .ensures, c .before .enum-told4 .given .1)
 
 returns-5 : tie.Need-returns-5
 returns-5 c = search needs
@@ -48,7 +48,7 @@ called-spec =
     enum-told-3
     call-requires
     enum-told-4
-    call-requires-2
+    refund-requires
     enum-told-5
     returns
     returns-2

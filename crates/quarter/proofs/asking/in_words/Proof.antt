@@ -16,6 +16,15 @@ slice-aggregate-read-words-2 c = search needs
 read-words-requires : tie.Need-read-words-requires
 read-words-requires c κs = search needs
 
+slice-aggregate-u16-at : tie.Need-slice-aggregate-u16-at
+slice-aggregate-u16-at c = search needs
+
+slice-aggregate-u16-at-2 : tie.Need-slice-aggregate-u16-at-2
+slice-aggregate-u16-at-2 c = search needs
+
+u16-at-requires : tie.Need-u16-at-requires
+u16-at-requires c κs = search needs
+
 slice-aggregate-amount-at : tie.Need-slice-aggregate-amount-at
 slice-aggregate-amount-at c = search needs
 
@@ -31,8 +40,8 @@ spoken-as-requires c κs = search needs
 returns : tie.Need-returns
 unfolding inWords
 returns c =
-    let w = c .before .before .before .before .before .before .read-words .ensures in
-    rw (c .spoken-as .ensures, c .before .amount-at .ensures, w .0, w .1 .0, w .1 .1, c .before .before .before .before .before .before .before .before .before .form-of .ensures)
+    let w = c .before .before .before .before .before .before .before .before .before .read-words .ensures in
+    rw (c .spoken-as .ensures, c .before .amount-at .ensures, c .before .before .before .before .u16-at .ensures, w .0, w .1 .0, w .1 .1, c .before .before .before .before .before .before .before .before .before .before .before .before .form-of .ensures)
 
 pub in-words-spec : {M : Type 1} → statement M
 in-words-spec =
@@ -42,6 +51,9 @@ in-words-spec =
     slice-aggregate-read-words
     slice-aggregate-read-words-2
     read-words-requires
+    slice-aggregate-u16-at
+    slice-aggregate-u16-at-2
+    u16-at-requires
     slice-aggregate-amount-at
     slice-aggregate-amount-at-2
     amount-at-requires

@@ -1,4 +1,5 @@
 -- By the first word. Assumes nothing.
+use mathlib.Core.Path.{sym, _∙_}
 use borrow.Author.Needs.{needs}
 use Rattle.quarter.proofs.asking.takes.Statement.{statement}
 use Rattle.quarter.proofs.asking.takes.Tie as tie
@@ -15,6 +16,9 @@ enum-told-3 c = search needs
 enum-told-4 : tie.Need-enum-told-4
 enum-told-4 c = search needs
 
+is-refund-requires : tie.Need-is-refund-requires
+is-refund-requires c κs = search needs
+
 enum-told-5 : tie.Need-enum-told-5
 enum-told-5 c = search needs
 
@@ -28,7 +32,7 @@ returns-3 : tie.Need-returns-3
 returns-3 c = rw (c .enum-told3 .given .1)
 
 returns-4 : tie.Need-returns-4
-returns-4 c = rw (c .enum-told4 .given .1)
+returns-4 c = c .is-refund .ensures ∙ sym (rw (c .before .enum-told4 .given .1))
 
 returns-5 : tie.Need-returns-5
 returns-5 c = search needs
@@ -41,6 +45,7 @@ takes-spec =
     enum-told-2
     enum-told-3
     enum-told-4
+    is-refund-requires
     enum-told-5
     returns
     returns-2
