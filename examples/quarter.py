@@ -3,6 +3,7 @@
     python3 quarter.py hourly > hourly.txt
     python3 quarter.py nightly > nightly.txt
     python3 quarter.py renegotiated > renegotiated.txt
+    python3 quarter.py chargebacks > chargebacks.txt             the nightly cut, with the codes of the refunds' reasons
     python3 quarter.py numbers hourly                the same in numbers, a currency, a scale and a coefficient, in place of codes and texts
     python3 quarter.py long LINES SUM > long.txt     a long file of postings and refunds on one book with that sum of weights
     python3 quarter.py csv contracts > contracts.csv             the contracts of `morskebab rerun`, and (csv renegotiated) with the new weights
@@ -24,6 +25,8 @@ SEED = 2023
 FIRST_DAY = datetime.date(2023, 1, 1)
 NAMES = ("Anna", "Ben", "Café Chloé", "Dora")
 BOOK = "Example"
+# no reason, and the codes of three
+REASONS = ("", " 10", " 13", " 41")
 # by its code, with amounts as texts, or by its number
 EURO = "EUR"
 
@@ -82,6 +85,22 @@ def renegotiated():
         if day == SECOND_MONTH:
             yield "card " + " ".join(map(str, NEW_WEIGHTS))
         yield from moves(posted, refunded)
+
+
+def chargebacks():
+    """A night's refunds of one reason are one refund, which ends in its code."""
+    yield "# the same nights; a refund ends in the code of its reason, where it has one"
+    yield f"open {EURO} " + " ".join(map(str, WEIGHTS))
+    nights = {}
+    for day, hour, posted, refunded in hours_of_the_quarter():
+        night = nights.setdefault(day, [0] + [0] * len(REASONS))
+        night[0] += posted
+        night[1 + (day + hour) % len(REASONS)] += refunded
+    for posted, *refunds in nights.values():
+        yield f"post {euros(posted)}"
+        for reason, refunded in zip(REASONS, refunds):
+            if refunded:
+                yield f"refund {euros(refunded)}{reason}"
 
 
 def day_of(day):
@@ -160,6 +179,8 @@ def main(words):
         lines = nightly()
     elif words[:1] == ["renegotiated"]:
         lines = renegotiated()
+    elif words[:1] == ["chargebacks"]:
+        lines = chargebacks()
     elif words[:1] == ["long"] and len(words) == 3:
         lines = long(int(words[1]), int(words[2]))
     elif words[:1] == ["csv"] and len(words) > 1:

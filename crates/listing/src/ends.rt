@@ -1,7 +1,7 @@
 // A file read from its end: the bytes before a place of it, of which the last are held.
 use libc::SEEK_END;
 use libc::STDERR_FILENO;
-use statement::RECORD;
+use statement::RECORD_WITH_REASON;
 use statement::RECORDS;
 use statement::TRAILER;
 use std::num::wrapping_add_u64;
@@ -12,7 +12,7 @@ ghost use Prim.Native.Nat.{_+_, _≤_};
 ghost use lib.ListN.{length};
 
 // The longest statement.
-const LONGEST: usize = RECORDS * RECORD + TRAILER;
+const LONGEST: usize = RECORDS * RECORD_WITH_REASON + TRAILER;
 
 // So many bytes of the file are left, and so many of these, their last, are held at the front of a buffer.
 pub struct Ending {

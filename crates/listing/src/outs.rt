@@ -4,12 +4,12 @@ use console::make_room;
 use console::put_named;
 use lines::put_bytes;
 use lines::put_number;
-use statement::Payout;
+use statement::AnyStep;
 use statement::RECORDS;
-use statement::Step;
-use statement::Summary;
-use statement::place_after;
-use view::read_at;
+use statement::Reasoned;
+use statement::SummaryOfAny;
+use statement::any_place_after;
+use view::read_any_at;
 use whole::is_negative;
 use whole::magnitude;
 
@@ -22,40 +22,47 @@ fn put_signed(out: &mut [u8], at: usize, words: &[u8], n: i64) -> usize {
 }
 
 // The currency of a statement is its first record's; an empty one has none.
-fn put_currency(out: &mut [u8], at: usize, first: Step) -> usize {
+fn put_currency(out: &mut [u8], at: usize, first: AnyStep) -> usize {
     match first {
-        Step::Next(payout) => put_named(out, at, b" currency ", payout.currency as u64),
-        Step::End => put_bytes(out, at, b" currency -"),
+        AnyStep::Next(payout) => put_named(out, at, b" currency ", payout.currency as u64),
+        AnyStep::End => put_bytes(out, at, b" currency -"),
     }
 }
 
-fn put_heading(out: &mut [u8], at: usize, summary: Summary, first: Step) -> usize {
-    let behind = put_named(out, at, b"statement version ", 1);
+fn put_heading(out: &mut [u8], at: usize, summary: SummaryOfAny, first: AnyStep) -> usize {
+    let behind = put_named(out, at, b"statement version ", summary.version as u64);
     let behind = put_named(out, behind, b" records ", summary.count as u64);
     let behind = put_signed(out, behind, b" sum ", summary.sum);
     let behind = put_currency(out, behind, first);
     put_bytes(out, behind, b"\n")
 }
 
-fn put_record(out: &mut [u8], at: usize, payout: Payout) -> usize {
+fn put_record(out: &mut [u8], at: usize, payout: Reasoned) -> usize {
     let behind = put_named(out, at, b"record ", payout.place as u64);
     let behind = put_signed(out, behind, b" ", payout.coefficient);
-    put_bytes(out, behind, b" 0\n")
+    let behind = put_named(out, behind, b" ", payout.reason as u64);
+    put_bytes(out, behind, b"\n")
 }
 
 // A line for each record from a place on, as the reader hands them out.
-fn put_records(bytes: &[u8], from: usize, before: Waiting, out: &mut [u8]) -> Waiting {
+fn put_records(
+    bytes: &[u8],
+    version: u16,
+    from: usize,
+    before: Waiting,
+    out: &mut [u8],
+) -> Waiting {
     let mut waiting = before;
     let mut at = from;
     let mut i = 0;
     while i < RECORDS {
-        let step = read_at(bytes, at);
-        let Step::Next(payout) = step else {
+        let step = read_any_at(bytes, version, at);
+        let AnyStep::Next(payout) = step else {
             return waiting;
         };
         waiting = make_room(out, waiting, LINE);
         waiting.at = put_record(out, waiting.at, payout);
-        at = place_after(bytes, at);
+        at = any_place_after(bytes, version, at);
         i += 1;
     }
     waiting
@@ -64,13 +71,14 @@ fn put_records(bytes: &[u8], from: usize, before: Waiting, out: &mut [u8]) -> Wa
 // The lines of the statement that the bytes end in.
 pub(crate) fn put_statement(
     bytes: &[u8],
-    summary: Summary,
+    summary: SummaryOfAny,
     before: Waiting,
     out: &mut [u8],
 ) -> Waiting {
     let mut waiting = make_room(out, before, LINE);
-    waiting.at = put_heading(out, waiting.at, summary, read_at(bytes, summary.first));
-    put_records(bytes, summary.first, waiting, out)
+    let first = read_any_at(bytes, summary.version, summary.first);
+    waiting.at = put_heading(out, waiting.at, summary, first);
+    put_records(bytes, summary.version, summary.first, waiting, out)
 }
 
 // The bytes that are left where they are no statement.

@@ -8,8 +8,8 @@ use console::FAILED;
 use console::WELL;
 use console::Waiting;
 use console::write_out;
-use statement::Found;
-use statement::check;
+use statement::FoundAny;
+use statement::check_any;
 
 // Some statements at once, so that a file of many small ones is not read many times over.
 const HELD: usize = 262_144;
@@ -40,12 +40,12 @@ fn before(ending: Ending, first: usize) -> Ending {
 fn step(mut walk: Walk, bytes: &[u8], out: &mut [u8]) -> Walk {
     let ending = walk.ending;
     let waiting = walk.waiting;
-    match check(bytes) {
-        Found::Value(summary) => {
+    match check_any(bytes) {
+        FoundAny::Value(summary) => {
             walk.waiting = put_statement(bytes, summary, waiting, out);
             walk.ending = before(ending, summary.first);
         },
-        Found::Refused(_) => {
+        FoundAny::Refused(_) => {
             walk.waiting = put_other(ending.left, waiting, out);
             walk.ended = true;
         },

@@ -3,14 +3,14 @@
 use console::FAILED;
 use console::WELL;
 use currency::Currency;
-use statement::RECORD;
+use statement::RECORD_WITH_REASON;
 use statement::RECORDS;
 use statement::TRAILER;
-use statement::write;
+use statement::write_reasons;
 ghost use Prim.Native.Nat.{_≤_};
 
 // A byte and the longest statement.
-const LONGEST: usize = 1 + RECORDS * RECORD + TRAILER;
+const LONGEST: usize = 1 + RECORDS * RECORD_WITH_REASON + TRAILER;
 
 pub struct Out {
     pub fd: i32,
@@ -57,11 +57,12 @@ fn put_out(out: Out, file: &[u8], end: usize) -> Out {
     }
 }
 
-// With the statement of so many payouts, the first of the two lists.
+// With the statement of so many payouts, the first of the lists.
 pub(crate) fn put_statement(
     out: Out,
     currency: Currency,
     places: &[u16],
+    reasons: &[u16],
     coefficients: &[i64],
     count: usize,
 ) -> Out {
@@ -71,13 +72,17 @@ pub(crate) fn put_statement(
     if places.len() < count {
         return failed_out(out);
     }
+    if reasons.len() < count {
+        return failed_out(out);
+    }
     if coefficients.len() < count {
         return failed_out(out);
     }
     let mut file = [0u8; LONGEST];
-    let written = write(
+    let written = write_reasons(
         currency,
         &places[0..count],
+        &reasons[0..count],
         &coefficients[0..count],
         &mut file,
         1,

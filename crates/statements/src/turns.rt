@@ -53,20 +53,20 @@ fn first_turn(out: Out) -> Statements {
 }
 
 // With a statement of the records that wait.
-fn close(mut at: Statements, places: &[u16], coefficients: &[i64]) -> Statements {
+fn close(mut at: Statements, places: &[u16], reasons: &[u16], coefficients: &[i64]) -> Statements {
     let out = at.out;
     let currency = at.book.currency;
-    at.out = put_statement(out, currency, places, coefficients, at.count);
+    at.out = put_statement(out, currency, places, reasons, coefficients, at.count);
     at.count = 0;
     at
 }
 
 // With the book ended: one without a payout has an empty statement.
-fn end_book(at: Statements, places: &[u16], coefficients: &[i64]) -> Statements {
+fn end_book(at: Statements, places: &[u16], reasons: &[u16], coefficients: &[i64]) -> Statements {
     if !at.opened {
         return at;
     }
-    let mut ended = close(at, places, coefficients);
+    let mut ended = close(at, places, reasons, coefficients);
     ended.book = no_book();
     ended.opened = false;
     ended
@@ -108,7 +108,9 @@ fn pay(
     at: Statements,
     refund: bool,
     amount: Amount,
+    reason: u16,
     places: &mut [u16],
+    reasons: &mut [u16],
     coefficients: &mut [i64],
 ) -> Statements {
     let book = at.book;
@@ -117,10 +119,18 @@ fn pay(
     let next = moved.book;
     let mut paid = at;
     if RECORDS - count_paid(payouts) < at.count {
-        paid = close(at, places, coefficients);
+        paid = close(at, places, reasons, coefficients);
     }
     paid.book = next;
-    paid.count = put_paid(places, coefficients, paid.count, payouts, refund);
+    paid.count = put_paid(
+        places,
+        reasons,
+        coefficients,
+        paid.count,
+        payouts,
+        refund,
+        reason,
+    );
     paid
 }
 
@@ -130,12 +140,21 @@ fn take(
     asked: Asked,
     line: &[u8],
     places: &mut [u16],
+    reasons: &mut [u16],
     coefficients: &mut [i64],
 ) -> Statements {
     match asked {
-        Asked::Call(refund, amount) => pay(at, refund, amount, places, coefficients),
-        Asked::Open => begin_book(end_book(at, places, coefficients), line),
-        Asked::Astray => end_book(at, places, coefficients),
+        Asked::Call(refund, amount, reason) => pay(
+            at,
+            refund,
+            amount,
+            reason,
+            places,
+            reasons,
+            coefficients,
+        ),
+        Asked::Open => begin_book(end_book(at, places, reasons, coefficients), line),
+        Asked::Astray => end_book(at, places, reasons, coefficients),
         Asked::Card => go_on_card(at, line),
         _ => at,
     }
@@ -156,6 +175,7 @@ fn turn(
     mut at: Statements,
     text: &mut [u8],
     places: &mut [u16],
+    reasons: &mut [u16],
     coefficients: &mut [i64],
 ) -> Statements {
     let before = at.reading;
@@ -167,10 +187,10 @@ fn turn(
     let next = reading.next;
     at.reading = reading;
     match next {
-        Next::Line(asked) => take(at, asked, &text[start..end], places, coefficients),
+        Next::Line(asked) => take(at, asked, &text[start..end], places, reasons, coefficients),
         Next::More => read_on(fd, at, text),
         Next::End => {
-            let mut last = end_book(at, places, coefficients);
+            let mut last = end_book(at, places, reasons, coefficients);
             last.ended = true;
             last
         },
@@ -188,6 +208,7 @@ fn goes_on(at: Statements) -> bool {
 fn run_all(fd: i32, out: Out) -> Statements {
     let mut text = io::large_buffer();
     let mut places = [0u16; RECORDS];
+    let mut reasons = [0u16; RECORDS];
     let mut coefficients = [0i64; RECORDS];
     let mut at = first_turn(out);
     let mut turns = u64::MAX;
@@ -196,7 +217,14 @@ fn run_all(fd: i32, out: Out) -> Statements {
             return at;
         }
         turns -= 1;
-        at = turn(fd, at, &mut text, &mut places, &mut coefficients);
+        at = turn(
+            fd,
+            at,
+            &mut text,
+            &mut places,
+            &mut reasons,
+            &mut coefficients,
+        );
     }
     at
 }

@@ -7,16 +7,16 @@ use Rattle.listing.proofs.outs.put_records.Statement.{statement}
 use Rattle.listing.proofs.outs.put_records.Tie as tie
 
 abbrev Inv-loop : tie.InvT-loop
-Inv-loop bytes from out₀ waiting₀ at₀ i₀ out waiting at i = (i ≤ 4000) × (length out ≡ length out₀)
+Inv-loop bytes version from out₀ waiting₀ at₀ i₀ out waiting at i = (i ≤ 4000) × (length out ≡ length out₀)
 
 abbrev μ-loop : tie.MeasureT-loop
-μ-loop bytes from out₀ waiting₀ at₀ i₀ out waiting at i = 4000 - i
+μ-loop bytes version from out₀ waiting₀ at₀ i₀ out waiting at i = 4000 - i
 
 loop-holds : tie.Need-loop-holds Inv-loop μ-loop
 loop-holds c = search needs
 
-read-at-requires : tie.Need-read-at-requires Inv-loop μ-loop
-read-at-requires c κs = search needs
+read-any-at-requires : tie.Need-read-any-at-requires Inv-loop μ-loop
+read-any-at-requires c κs = search needs
 
 enum-known-step : tie.Need-enum-known-step Inv-loop μ-loop
 enum-known-step c = search needs
@@ -36,8 +36,8 @@ make-room-requires c κs = search needs
 put-record-requires : tie.Need-put-record-requires Inv-loop μ-loop
 put-record-requires c κs = search needs
 
-place-after-requires : tie.Need-place-after-requires Inv-loop μ-loop
-place-after-requires c κs = search needs
+any-place-after-requires : tie.Need-any-place-after-requires Inv-loop μ-loop
+any-place-after-requires c κs = search needs
 
 add-i : tie.Need-add-i Inv-loop μ-loop
 add-i c = search needs
@@ -61,14 +61,14 @@ put-records-spec =
     Inv-loop
     μ-loop
     loop-holds
-    read-at-requires
+    read-any-at-requires
     enum-known-step
     enum-told
     same-length
     returns
     make-room-requires
     put-record-requires
-    place-after-requires
+    any-place-after-requires
     add-i
     loop-less
     loop-again

@@ -7,10 +7,10 @@ use Rattle.statements.proofs.records.put_paid.Statement.{statement}
 use Rattle.statements.proofs.records.put_paid.Tie as tie
 
 abbrev Inv-loop : tie.InvT-loop
-Inv-loop places₀ coefficients₀ from refund payouts at₀ place₀ places coefficients at place = (place ≤ 16) × (length places ≡ length places₀) × (length coefficients ≡ length coefficients₀)
+Inv-loop places₀ reasons₀ coefficients₀ from refund reason payouts at₀ place₀ places reasons coefficients at place = (place ≤ 16) × (length places ≡ length places₀) × (length reasons ≡ length reasons₀) × (length coefficients ≡ length coefficients₀)
 
 abbrev μ-loop : tie.MeasureT-loop
-μ-loop places₀ coefficients₀ from refund payouts at₀ place₀ places coefficients at place = 16 - place
+μ-loop places₀ reasons₀ coefficients₀ from refund reason payouts at₀ place₀ places reasons coefficients at place = 16 - place
 
 loop-holds : tie.Need-loop-holds Inv-loop μ-loop
 loop-holds c = search needs
@@ -42,6 +42,9 @@ same-length c = search needs
 same-length-2 : tie.Need-same-length-2 Inv-loop μ-loop
 same-length-2 c = search needs
 
+same-length-3 : tie.Need-same-length-3 Inv-loop μ-loop
+same-length-3 c = search needs
+
 returns : tie.Need-returns Inv-loop μ-loop
 returns c = search needs
 
@@ -61,4 +64,5 @@ put-paid-spec =
     loop-again
     same-length
     same-length-2
+    same-length-3
     returns)

@@ -6,10 +6,10 @@ use Rattle.statements.proofs.turns.run_all.Statement.{statement}
 use Rattle.statements.proofs.turns.run_all.Tie as tie
 
 abbrev Inv-loop : tie.InvT-loop
-Inv-loop fd text₀ places₀ coefficients₀ at₀ turns₀ text places coefficients at turns = (length text ≡ 65536) × (length places ≡ 4000) × (length coefficients ≡ 4000)
+Inv-loop fd text₀ places₀ reasons₀ coefficients₀ at₀ turns₀ text places reasons coefficients at turns = (length text ≡ 65536) × (length places ≡ 4000) × (length reasons ≡ 4000) × (length coefficients ≡ 4000)
 
 abbrev μ-loop : tie.MeasureT-loop
-μ-loop fd text₀ places₀ coefficients₀ at₀ turns₀ text places coefficients at turns = turns
+μ-loop fd text₀ places₀ reasons₀ coefficients₀ at₀ turns₀ text places reasons coefficients at turns = turns
 
 large-buffer-requires : tie.Need-large-buffer-requires Inv-loop μ-loop
 large-buffer-requires c κs = search needs
@@ -38,6 +38,9 @@ slice-aggregate-turn-2 c = search needs
 slice-aggregate-turn-3 : tie.Need-slice-aggregate-turn-3 Inv-loop μ-loop
 slice-aggregate-turn-3 c = search needs
 
+slice-aggregate-turn-4 : tie.Need-slice-aggregate-turn-4 Inv-loop μ-loop
+slice-aggregate-turn-4 c = search needs
+
 turn-requires : tie.Need-turn-requires Inv-loop μ-loop
 turn-requires c κs = search needs
 
@@ -65,6 +68,7 @@ run-all-spec =
     slice-aggregate-turn
     slice-aggregate-turn-2
     slice-aggregate-turn-3
+    slice-aggregate-turn-4
     turn-requires
     loop-less
     loop-again
