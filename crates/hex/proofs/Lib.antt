@@ -1,0 +1,9 @@
+pub mod Digits
+pub mod Worths
+pub mod Pairs
+pub mod Puts
+pub mod Shows
+pub mod ReadBack
+pub mod Accepted
+pub mod Decodes
+pub mod Unique

@@ -1,0 +1,23 @@
+-- A figure below ten, else a letter. Assumes nothing.
+use borrow.Author.Tests.{lt-ltb, le-ltb}
+use Rattle.hex.specs.Hexadecimal.{digitOf}
+use borrow.Author.Needs.{needs}
+use Rattle.hex.proofs.putting.digit_of.Statement.{statement}
+use Rattle.hex.proofs.putting.digit_of.Tie as tie
+
+add-result : tie.Need-add-result
+add-result c = search needs
+
+add-result-2 : tie.Need-add-result-2
+add-result-2 c = search needs
+
+returns : tie.Need-returns
+unfolding digitOf
+returns c = rw (lt-ltb _ _ (c .if1 .taken))
+
+returns-2 : tie.Need-returns-2
+unfolding digitOf
+returns-2 c = rw (le-ltb _ _ (c .if1 .left))
+
+pub digit-of-spec : {M : Type 1} → statement M
+digit-of-spec = tie.close (tie.spec add-result add-result-2 returns returns-2)
