@@ -4,7 +4,7 @@ mod Heads
 mod Marked
 mod Ways
 mod Kept
-mod Weights
+mod Listed
 mod Beyond
 pub mod Words
 pub mod Readings

@@ -5,7 +5,7 @@ use mathlib.Core.Bool.{Bool}
 use mathlib.Core.List.{List}
 use Prim.Native.Nat.{ℕ}
 use Rattle.intake.specs.Keeping.{keptCount, keptOf}
-use Rattle.intake.specs.Numbers.{weightCount, weightsOf}
+use Rattle.intake.specs.Numbers.{listedCount, listed}
 use Rattle.intake.specs.Words.{givenOf, signsOf, magnitudesOf}
 use Rattle.intake.specs.declared.Given.{Given}
 
@@ -25,8 +25,8 @@ pub one-reading : (line : List ℕ) (from : ℕ) (signs : List Bool) (values : L
 one-reading line from signs values r s a b m n given put read given′ put′ read′ =
     (one-answer given given′, one-answer put put′, one-answer read read′)
 
-pub one-weighing : (signs : List Bool) (values : List ℕ) (from to : ℕ) (weights : List ℕ) (r s : ℕ) (a b : List ℕ)
-    → r ≡ weightCount from to weights → a ≡ weightsOf signs values from to weights
-    → s ≡ weightCount from to weights → b ≡ weightsOf signs values from to weights
+pub one-listing : {A : Type 0} (number : ℕ → A) (from to : ℕ) (xs : List A) (r s : ℕ) (a b : List A)
+    → r ≡ listedCount from to xs → a ≡ listed number from to xs
+    → s ≡ listedCount from to xs → b ≡ listed number from to xs
     → (r ≡ s) × (a ≡ b)
-one-weighing signs values from to weights r s a b count put count′ put′ = (one-answer count count′, one-answer put put′)
+one-listing number from to xs r s a b count put count′ put′ = (one-answer count count′, one-answer put put′)

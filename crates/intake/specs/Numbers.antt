@@ -23,10 +23,10 @@ amountAt signs values place =
       coefficient = signedAt signs values (place + 2);
     }
 
--- the numbers from one place up to another as weights, as many as the list has places for: how many, and the list afterwards
-abbrev pub weightCount : (from to : ℕ) → List ℕ → ℕ
-weightCount from to weights = min (to - from) (length weights)
+-- the numbers from one place up to another into a list, each as the list's type holds it, as many as the list has places for: how many, and the list
+-- afterwards
+abbrev pub listedCount : {A : Type 0} → (from to : ℕ) → List A → ℕ
+listedCount from to xs = min (to - from) (length xs)
 
-unfoldable pub weightsOf : List Bool → List ℕ → (from to : ℕ) → List ℕ → List ℕ
-weightsOf signs values from to weights =
-    filled 0 (λ k. unsignedAt 4294967295 signs values (from + k)) (weightCount from to weights) weights
+unfoldable pub listed : {A : Type 0} → (number : ℕ → A) (from to : ℕ) → List A → List A
+listed number from to xs = filled 0 (λ k. number (from + k)) (listedCount from to xs) xs

@@ -3,6 +3,7 @@
 mod cuts;
 mod keeping;
 mod leads;
+mod lists;
 mod marks;
 mod numbers;
 
@@ -74,6 +75,9 @@ pub use cuts::next_line;
 pub use keeping::keep;
 pub use leads::is_open;
 pub use leads::lead_of;
+pub use lists::read_coefficients;
+pub use lists::read_places;
+pub use lists::read_weights;
 pub use marks::mark_of;
 pub use numbers::amount_at;
 pub use numbers::asks_nothing;
@@ -82,7 +86,6 @@ pub use numbers::next_word;
 pub use numbers::put_magnitude;
 pub use numbers::put_sign;
 pub use numbers::read_numbers;
-pub use numbers::read_weights;
 pub use numbers::u8_at;
 pub use numbers::u16_at;
 pub use numbers::u32_at;

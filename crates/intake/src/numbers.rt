@@ -17,7 +17,7 @@ ghost use Prim.Native.Nat.{_≤_};
 ghost use lib.ListN.{length, getD, set};
 ghost use Rattle.lines.specs.Lines.{most};
 ghost use Rattle.lines.specs.Reads.{numberAt};
-ghost use Rattle.intake.specs.Numbers.{unsignedAt, signedAt, amountAt, weightCount, weightsOf};
+ghost use Rattle.intake.specs.Numbers.{unsignedAt, signedAt, amountAt};
 ghost use Rattle.intake.specs.Words.{asksNothing, nextWord, isNumber, signIn, magnitudeIn, givenOf, signsOf, magnitudesOf};
 
 // Whether a line is empty or a comment.
@@ -167,28 +167,4 @@ pub fn amount_at(signs: &[bool], values: &[u64], place: usize) -> Amount
         scale: u8_at(signs, values, place + 1),
         coefficient: i64_at(signs, values, place + 2),
     }
-}
-
-// The numbers from one place up to another as weights, as many as there is room for; how many they are.
-pub fn read_weights(
-    signs: &[bool],
-    values: &[u64],
-    from: usize,
-    to: usize,
-    weights: &mut [u32],
-) -> usize
-    ensures count { λ r. ⌜ r ≡ weightCount from to (now (weights .entry)) ⌝ }
-    ensures weights { λ _. ⌜ now (weights .exit) ≡ weightsOf (now (signs .entry)) (now (values .entry)) from to (now (weights .entry)) ⌝ }
-{
-    let mut count = 0;
-    let mut i = from;
-    while i < to {
-        if weights.len() <= count {
-            return count;
-        }
-        weights[count] = u32_at(signs, values, i);
-        count += 1;
-        i += 1;
-    }
-    count
 }

@@ -1,25 +1,26 @@
 -- After each turn one weight more is written. Assumes nothing.
 use Prim.Native.Nat.{_-_}
 use borrow.Author.Needs.{needs}
-use Rattle.intake.proofs.Weights.{Written, none-written, one-written, no-room, no-more}
-use Rattle.intake.proofs.numbers.read_weights.Statement.{statement}
-use Rattle.intake.proofs.numbers.read_weights.Tie as tie
+use Rattle.intake.specs.Numbers.{unsignedAt}
+use Rattle.intake.proofs.Listed.{Written, none-written, one-written, no-room, no-more}
+use Rattle.intake.proofs.lists.read_weights.Statement.{statement}
+use Rattle.intake.proofs.lists.read_weights.Tie as tie
 
 abbrev Inv-loop : tie.InvT-loop
 Inv-loop signs values from to weights₀ count₀ i₀ weights count i =
-    Written signs values from to weights₀ weights count i
+    Written (unsignedAt 4294967295 signs values) from to weights₀ weights count i
 
 abbrev μ-loop : tie.MeasureT-loop
 μ-loop signs values from to weights₀ count₀ i₀ weights count i = to - i
 
 loop-holds : tie.Need-loop-holds Inv-loop μ-loop
-loop-holds c = none-written _ _ _ _ _
+loop-holds c = none-written _ _ _ _
 
 same-length : tie.Need-same-length Inv-loop μ-loop
 same-length c = c .before .before .loop .inv .sized
 
 returns : tie.Need-returns Inv-loop μ-loop
-returns c = no-room _ _ _ _ _ _ _ _ (c .before .before .loop .inv) (c .if1 .taken)
+returns c = no-room _ _ _ _ _ _ _ (c .before .before .loop .inv) (c .if1 .taken)
 
 u32-at-requires : tie.Need-u32-at-requires Inv-loop μ-loop
 u32-at-requires c κs = search needs
@@ -41,14 +42,14 @@ loop-less c = search needs
 
 loop-again : tie.Need-loop-again Inv-loop μ-loop
 loop-again c =
-    one-written _ _ _ _ _ _ _ _ (c .before .before .before .loop .inv) _ (c .before .before .loop-test .taken) (c .before .if1 .left)
+    one-written _ _ _ _ _ _ _ (c .before .before .before .loop .inv) _ (c .before .before .loop-test .taken) (c .before .if1 .left)
     (c .u32-at .ensures)
 
 same-length-2 : tie.Need-same-length-2 Inv-loop μ-loop
 same-length-2 c = c .before .loop .inv .sized
 
 returns-2 : tie.Need-returns-2 Inv-loop μ-loop
-returns-2 c = no-more _ _ _ _ _ _ _ _ (c .before .loop .inv) (c .loop-test .left)
+returns-2 c = no-more _ _ _ _ _ _ _ (c .before .loop .inv) (c .loop-test .left)
 
 pub read-weights-spec : {M : Type 1} → statement M
 read-weights-spec =
