@@ -10,7 +10,7 @@ use Rattle.book.specs.declared.Book.{Book}
 use Rattle.book.specs.Moves.{zeroBook, openSaid, openedBook}
 use Rattle.intake.specs.declared.Given.{Given}
 use Rattle.intake.specs.declared.Given.the-variants.{Numbers, Others}
-use Rattle.intake.specs.Numbers.{unsignedAt, weightCount, weightsOf}
+use Rattle.intake.specs.Numbers.{unsignedAt, listedCount, listed}
 use Rattle.intake.specs.Words.{nextWord, givenOf, signsOf, magnitudesOf}
 use Rattle.spoken.specs.declared.Spoken.{Spoken}
 use Rattle.spoken.specs.Reading.{Read, readOf, spokenOf}
@@ -26,7 +26,7 @@ noWeights = replicate 17 0
 
 -- the weights of a line from a place of its numbers on
 abbrev pub weightsFrom : List Bool → List ℕ → (from count : ℕ) → List ℕ
-weightsFrom signs values from count = take (weightCount from count noWeights) (weightsOf signs values from count noWeights)
+weightsFrom signs values from count = take (listedCount from count noWeights) (listed (unsignedAt 4294967295 signs values) from count noWeights)
 
 -- how the book was opened
 abbrev pub openingOf : Said Book → Opening
