@@ -23,7 +23,7 @@ extern "C" {
 #endif
 
 /* 10,000 x major + 100 x minor + patch of this header; mkb_version() is that of the library which is linked */
-#define MKB_VERSION UINT32_C(20000)
+#define MKB_VERSION UINT32_C(30000)
 
 /* Document 01's table: a number is given exactly when its row holds for something that the call takes or makes and no smaller row does. */
 enum mkb_refusal {

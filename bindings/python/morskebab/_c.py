@@ -6,7 +6,7 @@ from ctypes import POINTER, Structure, c_bool, c_double, c_int8, c_int32, c_int6
 
 PARTNERS = 16
 # MKB_VERSION: 10,000 x major + 100 x minor + patch
-VERSION = 20000
+VERSION = 30000
 
 
 class CAmount(Structure):
