@@ -6,7 +6,7 @@ Until then its words are unknown and nothing of it is seen.
 """
 
 WRITTEN = frozenset({1, 2, 3, 5, 6, 7, 9, 10, 11, 12, 13})
-LANDED = frozenset({1, 2, 5, 6, 7, 9, 10, 12})
+LANDED = frozenset({1, 2, 3, 5, 6, 7, 9, 10, 11, 12, 13})
 
 
 def landed(ask):

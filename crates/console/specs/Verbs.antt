@@ -32,6 +32,12 @@ use Rattle.console.specs.declared.Verb.the-variants.{
   Settled,
   Read,
   Write,
+  Statement,
+  Check,
+  View,
+  Reasons,
+  CheckAny,
+  ViewAny,
   Unknown,
 }
 
@@ -41,23 +47,25 @@ sameBytes [] (b ∷ bs) = false
 sameBytes (a ∷ rest) [] = false
 sameBytes (a ∷ rest) (b ∷ bs) = eqb a b && sameBytes rest bs
 
--- post, open, read, card
+-- post, open, read, card, view
 abbrev pub ofFour : List ℕ → Verb
 ofFour word =
     cond (sameBytes word (112 ∷ 111 ∷ 115 ∷ 116 ∷ [])) Post
     (cond (sameBytes word (111 ∷ 112 ∷ 101 ∷ 110 ∷ [])) Open
     (cond (sameBytes word (114 ∷ 101 ∷ 97 ∷ 100 ∷ [])) Read
     (cond (sameBytes word (99 ∷ 97 ∷ 114 ∷ 100 ∷ [])) Card
-    Unknown)))
+    (cond (sameBytes word (118 ∷ 105 ∷ 101 ∷ 119 ∷ [])) View
+    Unknown))))
 
--- round, order, share, write
+-- round, order, share, write, check
 abbrev pub ofFive : List ℕ → Verb
 ofFive word =
     cond (sameBytes word (114 ∷ 111 ∷ 117 ∷ 110 ∷ 100 ∷ [])) Round
     (cond (sameBytes word (111 ∷ 114 ∷ 100 ∷ 101 ∷ 114 ∷ [])) Order
     (cond (sameBytes word (115 ∷ 104 ∷ 97 ∷ 114 ∷ 101 ∷ [])) Share
     (cond (sameBytes word (119 ∷ 114 ∷ 105 ∷ 116 ∷ 101 ∷ [])) Write
-    Unknown)))
+    (cond (sameBytes word (99 ∷ 104 ∷ 101 ∷ 99 ∷ 107 ∷ [])) Check
+    Unknown))))
 
 -- refund, negate, totals, export
 abbrev pub ofSix : List ℕ → Verb
@@ -68,7 +76,7 @@ ofSix word =
     (cond (sameBytes word (101 ∷ 120 ∷ 112 ∷ 111 ∷ 114 ∷ 116 ∷ [])) Export
     Unknown)))
 
--- rescale, convert, tax-net, net-for, settled
+-- rescale, convert, tax-net, net-for, settled, reasons
 abbrev pub ofSeven : List ℕ → Verb
 ofSeven word =
     cond (sameBytes word (114 ∷ 101 ∷ 115 ∷ 99 ∷ 97 ∷ 108 ∷ 101 ∷ [])) Rescale
@@ -76,23 +84,27 @@ ofSeven word =
     (cond (sameBytes word (116 ∷ 97 ∷ 120 ∷ 45 ∷ 110 ∷ 101 ∷ 116 ∷ [])) TaxNet
     (cond (sameBytes word (110 ∷ 101 ∷ 116 ∷ 45 ∷ 102 ∷ 111 ∷ 114 ∷ [])) NetFor
     (cond (sameBytes word (115 ∷ 101 ∷ 116 ∷ 116 ∷ 108 ∷ 101 ∷ 100 ∷ [])) Settled
-    Unknown))))
+    (cond (sameBytes word (114 ∷ 101 ∷ 97 ∷ 115 ∷ 111 ∷ 110 ∷ 115 ∷ [])) Reasons
+    Unknown)))))
 
--- interest, vouchers, compound
+-- interest, vouchers, compound, view-any
 abbrev pub ofEight : List ℕ → Verb
 ofEight word =
     cond (sameBytes word (105 ∷ 110 ∷ 116 ∷ 101 ∷ 114 ∷ 101 ∷ 115 ∷ 116 ∷ [])) Interest
     (cond (sameBytes word (118 ∷ 111 ∷ 117 ∷ 99 ∷ 104 ∷ 101 ∷ 114 ∷ 115 ∷ [])) Vouchers
     (cond (sameBytes word (99 ∷ 111 ∷ 109 ∷ 112 ∷ 111 ∷ 117 ∷ 110 ∷ 100 ∷ [])) Compound
-    Unknown))
+    (cond (sameBytes word (118 ∷ 105 ∷ 101 ∷ 119 ∷ 45 ∷ 97 ∷ 110 ∷ 121 ∷ [])) ViewAny
+    Unknown)))
 
--- sum, tax-gross, row
+-- sum, tax-gross, row, statement, check-any
 abbrev pub ofOthers : List ℕ → Verb
 ofOthers word =
     cond (sameBytes word (115 ∷ 117 ∷ 109 ∷ [])) Sum
     (cond (sameBytes word (116 ∷ 97 ∷ 120 ∷ 45 ∷ 103 ∷ 114 ∷ 111 ∷ 115 ∷ 115 ∷ [])) TaxGross
     (cond (sameBytes word (114 ∷ 111 ∷ 119 ∷ [])) Row
-    Unknown))
+    (cond (sameBytes word (115 ∷ 116 ∷ 97 ∷ 116 ∷ 101 ∷ 109 ∷ 101 ∷ 110 ∷ 116 ∷ [])) Statement
+    (cond (sameBytes word (99 ∷ 104 ∷ 101 ∷ 99 ∷ 107 ∷ 45 ∷ 97 ∷ 110 ∷ 121 ∷ [])) CheckAny
+    Unknown))))
 
 -- a word is looked for among those of its length
 unfoldable pub verbOf : List ℕ → Verb
@@ -130,32 +142,45 @@ formOf Card = record { first = Plain; fourth = Plain }
 formOf Settled = record { first = Plain; fourth = Plain }
 formOf Read = record { first = Unit; fourth = Plain }
 formOf Write = record { first = Money; fourth = Plain }
+formOf Statement = record { first = Unit; fourth = Plain }
+formOf Check = record { first = Plain; fourth = Plain }
+formOf View = record { first = Plain; fourth = Plain }
+formOf Reasons = record { first = Unit; fourth = Plain }
+formOf CheckAny = record { first = Plain; fourth = Plain }
+formOf ViewAny = record { first = Plain; fourth = Plain }
 formOf Unknown = record { first = Plain; fourth = Plain }
 
--- "`share` and `open` take any count of weights", and so do vouchers and a card; "`round MODE N D` stays, and is N x 1 / D"; `convert` "without STEP
--- it is 3"; a text, which is no number, stands behind `read`
-abbrev pub takesOf : Verb → (count : ℕ) → Bool
-takesOf Round count = eqb count 3 || eqb count 4
-takesOf Sum count = eqb count 6
-takesOf Order count = eqb count 6
-takesOf Negate count = eqb count 3
-takesOf Rescale count = eqb count 5
-takesOf Convert count = eqb count 4 || eqb count 5
-takesOf Interest count = eqb count 12
-takesOf TaxNet count = eqb count 5
-takesOf TaxGross count = eqb count 5
-takesOf NetFor count = eqb count 5
-takesOf Row count = eqb count 5
-takesOf Export count = eqb count 3
-takesOf Share count = leb 3 count
-takesOf Vouchers count = leb 2 count
-takesOf Compound count = eqb count 6
-takesOf Open count = leb 1 count
-takesOf Post count = eqb count 3
-takesOf Refund count = eqb count 3
-takesOf Totals count = eqb count 0
-takesOf Card count = true
-takesOf Settled count = eqb count 0
-takesOf Read count = false
-takesOf Write count = eqb count 4
-takesOf Unknown count = false
+-- "`share` and `open` take any count of weights", and so do vouchers and a card, and a statement's lists; "`round MODE N D` stays, and is N x 1 / D"; `convert`
+-- "without STEP it is 3"; "`refund CUR SCALE COEF REASON`", whose fourth number is "a reason code from 0 to 99", "any other number or word there is a line
+-- that is not understood"; a text, which is no number, stands behind `read`, and digits stand behind the readers of statements
+abbrev pub takesOf : Verb → (count fourth : ℕ) → Bool
+takesOf Round count fourth = eqb count 3 || eqb count 4
+takesOf Sum count fourth = eqb count 6
+takesOf Order count fourth = eqb count 6
+takesOf Negate count fourth = eqb count 3
+takesOf Rescale count fourth = eqb count 5
+takesOf Convert count fourth = eqb count 4 || eqb count 5
+takesOf Interest count fourth = eqb count 12
+takesOf TaxNet count fourth = eqb count 5
+takesOf TaxGross count fourth = eqb count 5
+takesOf NetFor count fourth = eqb count 5
+takesOf Row count fourth = eqb count 5
+takesOf Export count fourth = eqb count 3
+takesOf Share count fourth = leb 3 count
+takesOf Vouchers count fourth = leb 2 count
+takesOf Compound count fourth = eqb count 6
+takesOf Open count fourth = leb 1 count
+takesOf Post count fourth = eqb count 3
+takesOf Refund count fourth = eqb count 3 || (eqb count 4 && leb fourth 99)
+takesOf Totals count fourth = eqb count 0
+takesOf Card count fourth = true
+takesOf Settled count fourth = eqb count 0
+takesOf Read count fourth = false
+takesOf Write count fourth = eqb count 4
+takesOf Statement count fourth = leb 4 count
+takesOf Check count fourth = false
+takesOf View count fourth = false
+takesOf Reasons count fourth = leb 5 count
+takesOf CheckAny count fourth = false
+takesOf ViewAny count fourth = false
+takesOf Unknown count fourth = false

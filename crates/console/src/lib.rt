@@ -55,6 +55,12 @@ pub enum Verb {
     Settled,
     Read,
     Write,
+    Statement,
+    Check,
+    View,
+    Reasons,
+    CheckAny,
+    ViewAny,
     Unknown,
 }
 

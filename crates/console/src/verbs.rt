@@ -4,8 +4,8 @@ use check::same;
 use spoken::Form;
 use spoken::Kind;
 ghost use mathlib.Core.Path.{_≡_};
-ghost use mathlib.Core.Bool.{_||_};
-ghost use lib.Dec.{eqb};
+ghost use mathlib.Core.Bool.{_&&_, _||_};
+ghost use lib.Dec.{eqb, leb};
 ghost use Rattle.console.specs.Verbs.{ofFour, ofFive, ofSix, ofSeven, ofEight, ofOthers, verbOf, formOf, takesOf};
 
 fn of_four(word: &[u8]) -> Verb
@@ -22,6 +22,9 @@ fn of_four(word: &[u8]) -> Verb
     }
     if same(word, b"card") {
         return Verb::Card;
+    }
+    if same(word, b"view") {
+        return Verb::View;
     }
     Verb::Unknown
 }
@@ -40,6 +43,9 @@ fn of_five(word: &[u8]) -> Verb
     }
     if same(word, b"write") {
         return Verb::Write;
+    }
+    if same(word, b"check") {
+        return Verb::Check;
     }
     Verb::Unknown
 }
@@ -80,6 +86,9 @@ fn of_seven(word: &[u8]) -> Verb
     if same(word, b"settled") {
         return Verb::Settled;
     }
+    if same(word, b"reasons") {
+        return Verb::Reasons;
+    }
     Verb::Unknown
 }
 
@@ -95,6 +104,9 @@ fn of_eight(word: &[u8]) -> Verb
     if same(word, b"compound") {
         return Verb::Compound;
     }
+    if same(word, b"view-any") {
+        return Verb::ViewAny;
+    }
     Verb::Unknown
 }
 
@@ -109,6 +121,12 @@ fn of_others(word: &[u8]) -> Verb
     }
     if same(word, b"row") {
         return Verb::Row;
+    }
+    if same(word, b"statement") {
+        return Verb::Statement;
+    }
+    if same(word, b"check-any") {
+        return Verb::CheckAny;
     }
     Verb::Unknown
 }
@@ -161,6 +179,12 @@ pub fn form_of(verb: Verb) -> Form
         Verb::Settled => form(Kind::Plain, Kind::Plain),
         Verb::Read => form(Kind::Unit, Kind::Plain),
         Verb::Write => form(Kind::Money, Kind::Plain),
+        Verb::Statement => form(Kind::Unit, Kind::Plain),
+        Verb::Check => form(Kind::Plain, Kind::Plain),
+        Verb::View => form(Kind::Plain, Kind::Plain),
+        Verb::Reasons => form(Kind::Unit, Kind::Plain),
+        Verb::CheckAny => form(Kind::Plain, Kind::Plain),
+        Verb::ViewAny => form(Kind::Plain, Kind::Plain),
         Verb::Unknown => form(Kind::Plain, Kind::Plain),
     }
 }
@@ -175,10 +199,23 @@ fn is_either(count: usize, few: usize, more: usize) -> bool
     count == more
 }
 
-// Whether a verb takes so many numbers: a quotient's second factor and a conversion's decimals may be left out, and a share, vouchers, an
-// opening and a card take any count of weights.
-pub fn takes(verb: Verb, count: usize) -> bool
-    ensures { λ r. ⌜ r ≡ takesOf verb count ⌝ }
+// Whether a refund takes so many numbers: a reason code from 0 to 99 may stand behind its amount.
+fn takes_refund(count: usize, fourth: u8) -> bool
+    ensures { λ r. ⌜ r ≡ (eqb count 3 || (eqb count 4 && leb fourth 99)) ⌝ }
+{
+    if count == 3 {
+        return true;
+    }
+    if count == 4 {
+        return fourth <= 99;
+    }
+    false
+}
+
+// Whether a verb takes so many numbers, of which the fourth is given: a quotient's second factor, a conversion's decimals and a refund's reason may be
+// left out, and a share, vouchers, an opening, a card and the lists of a statement take any count.
+pub fn takes(verb: Verb, count: usize, fourth: u8) -> bool
+    ensures { λ r. ⌜ r ≡ takesOf verb count fourth ⌝ }
 {
     match verb {
         Verb::Round => is_either(count, 3, 4),
@@ -198,12 +235,18 @@ pub fn takes(verb: Verb, count: usize) -> bool
         Verb::Compound => count == 6,
         Verb::Open => 1 <= count,
         Verb::Post => count == 3,
-        Verb::Refund => count == 3,
+        Verb::Refund => takes_refund(count, fourth),
         Verb::Totals => count == 0,
         Verb::Card => true,
         Verb::Settled => count == 0,
         Verb::Read => false,
         Verb::Write => count == 4,
+        Verb::Statement => 4 <= count,
+        Verb::Check => false,
+        Verb::View => false,
+        Verb::Reasons => 5 <= count,
+        Verb::CheckAny => false,
+        Verb::ViewAny => false,
         Verb::Unknown => false,
     }
 }

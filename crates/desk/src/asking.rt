@@ -16,6 +16,10 @@ use crate::columns::export_of;
 use crate::columns::row_of;
 use crate::lists::compound_of;
 use crate::lists::vouchers_of;
+use crate::reasons::put_reasons;
+use crate::statements::LISTED;
+use crate::statements::put_of_hex;
+use crate::statements::put_statement;
 use crate::texts::put_read;
 use crate::texts::put_written;
 use console::Verb;
@@ -27,6 +31,7 @@ use intake::amount_at;
 use intake::asks_nothing;
 use intake::next_word;
 use intake::read_numbers;
+use intake::u8_at;
 use lines::put_bytes;
 use spoken::read_words;
 
@@ -84,6 +89,8 @@ fn put_call(
         Verb::Vouchers => vouchers_of(signs, values, count, out, at),
         Verb::Write => put_written(signs, values, out, at),
         Verb::Compound => compound_of(style, signs, values, out, at),
+        Verb::Statement => put_statement(signs, values, count, out, at),
+        Verb::Reasons => put_reasons(signs, values, count, out, at),
         _ => put_reply(out, at, style, call(verb, count, signs, values)),
     }
 }
@@ -103,7 +110,7 @@ fn put_of_words(
     let Given::Numbers(count) = given else {
         return put_unknown(out, at);
     };
-    if !takes(verb, count) {
+    if !takes(verb, count, u8_at(signs, values, 3)) {
         return put_unknown(out, at);
     }
     if 0 < spoken.refused {
@@ -126,7 +133,7 @@ fn put_of(
     let Given::Numbers(count) = read_numbers(line, from, signs, values) else {
         return put_of_words(line, from, verb, signs, values, out, at);
     };
-    if takes(verb, count) {
+    if takes(verb, count, u8_at(signs, values, 3)) {
         return put_call(verb, count, false, signs, values, out, at);
     }
     put_unknown(out, at)
@@ -144,11 +151,20 @@ fn put_of_many(line: &[u8], from: usize, verb: Verb, out: &mut [u8], at: usize) 
     put_of(line, from, verb, &mut signs, &mut values, out, at)
 }
 
+fn put_of_lists(line: &[u8], from: usize, verb: Verb, out: &mut [u8], at: usize) -> usize {
+    let mut signs = [false; LISTED];
+    let mut values = [0u64; LISTED];
+    put_of(line, from, verb, &mut signs, &mut values, out, at)
+}
+
 // The answer to a verb that needs no book, whose words stand from a place on.
 fn put_asked(line: &[u8], from: usize, verb: Verb, out: &mut [u8], at: usize) -> usize {
     match verb {
         Verb::Read => put_read(line, from, out, at),
+        Verb::Check | Verb::View => put_of_hex(line, from, verb, out, at),
+        Verb::CheckAny | Verb::ViewAny => put_of_hex(line, from, verb, out, at),
         Verb::Share | Verb::Vouchers => put_of_many(line, from, verb, out, at),
+        Verb::Statement | Verb::Reasons => put_of_lists(line, from, verb, out, at),
         _ => put_of_few(line, from, verb, out, at),
     }
 }

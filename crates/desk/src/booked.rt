@@ -15,6 +15,7 @@ use console::form_of;
 use console::takes;
 use intake::Given;
 use intake::amount_at;
+use intake::u8_at;
 use spoken::read_words;
 
 // The numbers that are kept of a line: a currency and one weight more than a book takes.
@@ -64,7 +65,7 @@ fn answer_booked(
     let spoken = read_words(line, from, form_of(verb), &mut signs, &mut values);
     let given = spoken.given;
     if let Given::Numbers(count) = given {
-        if takes(verb, count) {
+        if takes(verb, count, u8_at(&signs, &values, 3)) {
             if 0 < spoken.refused {
                 return Answered {
                     at: put_refused_text(out, at, spoken.refused),

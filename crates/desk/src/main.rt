@@ -6,6 +6,8 @@ mod books;
 mod calls;
 mod columns;
 mod lists;
+mod reasons;
+mod statements;
 mod texts;
 mod turns;
 

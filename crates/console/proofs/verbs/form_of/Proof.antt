@@ -147,6 +147,42 @@ enum-told-24 c = search needs
 form-requires-24 : tie.Need-form-requires-24
 form-requires-24 c κs = search needs
 
+enum-told-25 : tie.Need-enum-told-25
+enum-told-25 c = search needs
+
+form-requires-25 : tie.Need-form-requires-25
+form-requires-25 c κs = search needs
+
+enum-told-26 : tie.Need-enum-told-26
+enum-told-26 c = search needs
+
+form-requires-26 : tie.Need-form-requires-26
+form-requires-26 c κs = search needs
+
+enum-told-27 : tie.Need-enum-told-27
+enum-told-27 c = search needs
+
+form-requires-27 : tie.Need-form-requires-27
+form-requires-27 c κs = search needs
+
+enum-told-28 : tie.Need-enum-told-28
+enum-told-28 c = search needs
+
+form-requires-28 : tie.Need-form-requires-28
+form-requires-28 c κs = search needs
+
+enum-told-29 : tie.Need-enum-told-29
+enum-told-29 c = search needs
+
+form-requires-29 : tie.Need-form-requires-29
+form-requires-29 c κs = search needs
+
+enum-told-30 : tie.Need-enum-told-30
+enum-told-30 c = search needs
+
+form-requires-30 : tie.Need-form-requires-30
+form-requires-30 c κs = search needs
+
 returns : tie.Need-returns
 returns c = rw (c .form .ensures, c .before .enum-told .given .1)
 
@@ -219,6 +255,24 @@ returns-23 c = rw (c .form23 .ensures, c .before .enum-told23 .given .1)
 returns-24 : tie.Need-returns-24
 returns-24 c = rw (c .form24 .ensures, c .before .enum-told24 .given .1)
 
+returns-25 : tie.Need-returns-25
+returns-25 c = rw (c .form25 .ensures, c .before .enum-told25 .given .1)
+
+returns-26 : tie.Need-returns-26
+returns-26 c = rw (c .form26 .ensures, c .before .enum-told26 .given .1)
+
+returns-27 : tie.Need-returns-27
+returns-27 c = rw (c .form27 .ensures, c .before .enum-told27 .given .1)
+
+returns-28 : tie.Need-returns-28
+returns-28 c = rw (c .form28 .ensures, c .before .enum-told28 .given .1)
+
+returns-29 : tie.Need-returns-29
+returns-29 c = rw (c .form29 .ensures, c .before .enum-told29 .given .1)
+
+returns-30 : tie.Need-returns-30
+returns-30 c = rw (c .form30 .ensures, c .before .enum-told30 .given .1)
+
 pub form-of-spec : {M : Type 1} → statement M
 form-of-spec =
     tie.close
@@ -271,6 +325,18 @@ form-of-spec =
     form-requires-23
     enum-told-24
     form-requires-24
+    enum-told-25
+    form-requires-25
+    enum-told-26
+    form-requires-26
+    enum-told-27
+    form-requires-27
+    enum-told-28
+    form-requires-28
+    enum-told-29
+    form-requires-29
+    enum-told-30
+    form-requires-30
     returns
     returns-2
     returns-3
@@ -294,4 +360,10 @@ form-of-spec =
     returns-21
     returns-22
     returns-23
-    returns-24)
+    returns-24
+    returns-25
+    returns-26
+    returns-27
+    returns-28
+    returns-29
+    returns-30)

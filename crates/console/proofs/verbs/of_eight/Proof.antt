@@ -32,8 +32,17 @@ same-requires-3 c κs = search needs
 returns-3 : tie.Need-returns-3
 returns-3 c = rw (told _ _ _ (c .before .before .before .before .before .before .before .same .ensures) ∙ c .before .before .before .before .before .before .if1 .left, told _ _ _ (c .before .before .before .before .same2 .ensures) ∙ c .before .before .before .if2 .left, told _ _ _ (c .before .same3 .ensures) ∙ c .if3 .taken)
 
+slice-aggregate-same-4 : tie.Need-slice-aggregate-same-4
+slice-aggregate-same-4 c = search needs
+
+same-requires-4 : tie.Need-same-requires-4
+same-requires-4 c κs = search needs
+
 returns-4 : tie.Need-returns-4
-returns-4 c = rw (told _ _ _ (c .before .before .before .before .before .before .before .same .ensures) ∙ c .before .before .before .before .before .before .if1 .left, told _ _ _ (c .before .before .before .before .same2 .ensures) ∙ c .before .before .before .if2 .left, told _ _ _ (c .before .same3 .ensures) ∙ c .if3 .left)
+returns-4 c = rw (told _ _ _ (c .before .before .before .before .before .before .before .before .before .before .same .ensures) ∙ c .before .before .before .before .before .before .before .before .before .if1 .left, told _ _ _ (c .before .before .before .before .before .before .before .same2 .ensures) ∙ c .before .before .before .before .before .before .if2 .left, told _ _ _ (c .before .before .before .before .same3 .ensures) ∙ c .before .before .before .if3 .left, told _ _ _ (c .before .same4 .ensures) ∙ c .if4 .taken)
+
+returns-5 : tie.Need-returns-5
+returns-5 c = rw (told _ _ _ (c .before .before .before .before .before .before .before .before .before .before .same .ensures) ∙ c .before .before .before .before .before .before .before .before .before .if1 .left, told _ _ _ (c .before .before .before .before .before .before .before .same2 .ensures) ∙ c .before .before .before .before .before .before .if2 .left, told _ _ _ (c .before .before .before .before .same3 .ensures) ∙ c .before .before .before .if3 .left, told _ _ _ (c .before .same4 .ensures) ∙ c .if4 .left)
 
 pub of-eight-spec : {M : Type 1} → statement M
 of-eight-spec =
@@ -48,4 +57,7 @@ of-eight-spec =
     slice-aggregate-same-3
     same-requires-3
     returns-3
-    returns-4)
+    slice-aggregate-same-4
+    same-requires-4
+    returns-4
+    returns-5)

@@ -32,8 +32,26 @@ same-requires-3 c κs = search needs
 returns-3 : tie.Need-returns-3
 returns-3 c = rw (told _ _ _ (c .before .before .before .before .before .before .before .same .ensures) ∙ c .before .before .before .before .before .before .if1 .left, told _ _ _ (c .before .before .before .before .same2 .ensures) ∙ c .before .before .before .if2 .left, told _ _ _ (c .before .same3 .ensures) ∙ c .if3 .taken)
 
+slice-aggregate-same-4 : tie.Need-slice-aggregate-same-4
+slice-aggregate-same-4 c = search needs
+
+same-requires-4 : tie.Need-same-requires-4
+same-requires-4 c κs = search needs
+
 returns-4 : tie.Need-returns-4
-returns-4 c = rw (told _ _ _ (c .before .before .before .before .before .before .before .same .ensures) ∙ c .before .before .before .before .before .before .if1 .left, told _ _ _ (c .before .before .before .before .same2 .ensures) ∙ c .before .before .before .if2 .left, told _ _ _ (c .before .same3 .ensures) ∙ c .if3 .left)
+returns-4 c = rw (told _ _ _ (c .before .before .before .before .before .before .before .before .before .before .same .ensures) ∙ c .before .before .before .before .before .before .before .before .before .if1 .left, told _ _ _ (c .before .before .before .before .before .before .before .same2 .ensures) ∙ c .before .before .before .before .before .before .if2 .left, told _ _ _ (c .before .before .before .before .same3 .ensures) ∙ c .before .before .before .if3 .left, told _ _ _ (c .before .same4 .ensures) ∙ c .if4 .taken)
+
+slice-aggregate-same-5 : tie.Need-slice-aggregate-same-5
+slice-aggregate-same-5 c = search needs
+
+same-requires-5 : tie.Need-same-requires-5
+same-requires-5 c κs = search needs
+
+returns-5 : tie.Need-returns-5
+returns-5 c = rw (told _ _ _ (c .before .before .before .before .before .before .before .before .before .before .before .before .before .same .ensures) ∙ c .before .before .before .before .before .before .before .before .before .before .before .before .if1 .left, told _ _ _ (c .before .before .before .before .before .before .before .before .before .before .same2 .ensures) ∙ c .before .before .before .before .before .before .before .before .before .if2 .left, told _ _ _ (c .before .before .before .before .before .before .before .same3 .ensures) ∙ c .before .before .before .before .before .before .if3 .left, told _ _ _ (c .before .before .before .before .same4 .ensures) ∙ c .before .before .before .if4 .left, told _ _ _ (c .before .same5 .ensures) ∙ c .if5 .taken)
+
+returns-6 : tie.Need-returns-6
+returns-6 c = rw (told _ _ _ (c .before .before .before .before .before .before .before .before .before .before .before .before .before .same .ensures) ∙ c .before .before .before .before .before .before .before .before .before .before .before .before .if1 .left, told _ _ _ (c .before .before .before .before .before .before .before .before .before .before .same2 .ensures) ∙ c .before .before .before .before .before .before .before .before .before .if2 .left, told _ _ _ (c .before .before .before .before .before .before .before .same3 .ensures) ∙ c .before .before .before .before .before .before .if3 .left, told _ _ _ (c .before .before .before .before .same4 .ensures) ∙ c .before .before .before .if4 .left, told _ _ _ (c .before .same5 .ensures) ∙ c .if5 .left)
 
 pub of-others-spec : {M : Type 1} → statement M
 of-others-spec =
@@ -48,4 +66,10 @@ of-others-spec =
     slice-aggregate-same-3
     same-requires-3
     returns-3
-    returns-4)
+    slice-aggregate-same-4
+    same-requires-4
+    returns-4
+    slice-aggregate-same-5
+    same-requires-5
+    returns-5
+    returns-6)

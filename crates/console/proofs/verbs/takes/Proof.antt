@@ -64,6 +64,9 @@ enum-told-17 c = search needs
 enum-told-18 : tie.Need-enum-told-18
 enum-told-18 c = search needs
 
+takes-refund-requires : tie.Need-takes-refund-requires
+takes-refund-requires c κs = search needs
+
 enum-told-19 : tie.Need-enum-told-19
 enum-told-19 c = search needs
 
@@ -81,6 +84,24 @@ enum-told-23 c = search needs
 
 enum-told-24 : tie.Need-enum-told-24
 enum-told-24 c = search needs
+
+enum-told-25 : tie.Need-enum-told-25
+enum-told-25 c = search needs
+
+enum-told-26 : tie.Need-enum-told-26
+enum-told-26 c = search needs
+
+enum-told-27 : tie.Need-enum-told-27
+enum-told-27 c = search needs
+
+enum-told-28 : tie.Need-enum-told-28
+enum-told-28 c = search needs
+
+enum-told-29 : tie.Need-enum-told-29
+enum-told-29 c = search needs
+
+enum-told-30 : tie.Need-enum-told-30
+enum-told-30 c = search needs
 
 returns : tie.Need-returns
 returns c = c .is-either .ensures ∙ sym (rw (c .before .enum-told .given .1))
@@ -134,7 +155,7 @@ returns-17 : tie.Need-returns-17
 returns-17 c = rw (c .enum-told17 .given .1)
 
 returns-18 : tie.Need-returns-18
-returns-18 c = rw (c .enum-told18 .given .1)
+returns-18 c = c .takes-refund .ensures ∙ sym (rw (c .before .enum-told18 .given .1))
 
 returns-19 : tie.Need-returns-19
 returns-19 c = rw (c .enum-told19 .given .1)
@@ -153,6 +174,24 @@ returns-23 c = rw (c .enum-told23 .given .1)
 
 returns-24 : tie.Need-returns-24
 returns-24 c = rw (c .enum-told24 .given .1)
+
+returns-25 : tie.Need-returns-25
+returns-25 c = rw (c .enum-told25 .given .1)
+
+returns-26 : tie.Need-returns-26
+returns-26 c = rw (c .enum-told26 .given .1)
+
+returns-27 : tie.Need-returns-27
+returns-27 c = rw (c .enum-told27 .given .1)
+
+returns-28 : tie.Need-returns-28
+returns-28 c = rw (c .enum-told28 .given .1)
+
+returns-29 : tie.Need-returns-29
+returns-29 c = rw (c .enum-told29 .given .1)
+
+returns-30 : tie.Need-returns-30
+returns-30 c = rw (c .enum-told30 .given .1)
 
 pub takes-spec : {M : Type 1} → statement M
 takes-spec =
@@ -178,12 +217,19 @@ takes-spec =
     enum-told-16
     enum-told-17
     enum-told-18
+    takes-refund-requires
     enum-told-19
     enum-told-20
     enum-told-21
     enum-told-22
     enum-told-23
     enum-told-24
+    enum-told-25
+    enum-told-26
+    enum-told-27
+    enum-told-28
+    enum-told-29
+    enum-told-30
     returns
     returns-2
     returns-3
@@ -207,4 +253,10 @@ takes-spec =
     returns-21
     returns-22
     returns-23
-    returns-24)
+    returns-24
+    returns-25
+    returns-26
+    returns-27
+    returns-28
+    returns-29
+    returns-30)
