@@ -8,8 +8,7 @@ use currency::not_own_digits;
 use currency::power_of_ten;
 use refusal::Checked;
 use refusal::Refusal;
-use rounding::Rule;
-use rounding::round_product;
+use rounding::round_half_up;
 use whole::is_negative;
 use whole::magnitude;
 use whole::signed;
@@ -42,7 +41,7 @@ fn to_euro(from: Currency, decimals: u8, negative: bool, m: u64) -> u64
     let line = line_of(from);
     let parts = power_of_ten(line.places + decimals);
     let unit = line.figures * power_of_ten(line.digits);
-    round_product(Rule::HalfUp, negative, m, parts, unit)
+    round_half_up(m, parts, unit)
 }
 
 // Euro at 2 to 6 decimals to the old unit, multiplied by the rate; as the leaf gives it.
@@ -53,7 +52,7 @@ fn from_euro(to: Currency, decimals: u8, negative: bool, m: u64) -> u64
     let line = line_of(to);
     let parts = power_of_ten(line.places + decimals);
     let unit = line.figures * power_of_ten(line.digits);
-    round_product(Rule::HalfUp, negative, m, unit, parts)
+    round_half_up(m, unit, parts)
 }
 
 // The amount of a magnitude in a currency, at its own digits; refusal 13 where it is over L.

@@ -11,6 +11,7 @@ pub mod FactorOne
 pub mod Factors
 pub mod Floor
 pub mod Fractions
+pub mod HalfUp
 pub mod Monotone
 pub mod Nearest
 pub mod Opposite

@@ -48,4 +48,5 @@ pub use leaf::round;
 pub use modes::rises;
 pub use modes::rule_of;
 pub use plain::plain_quotient;
+pub use product::round_half_up;
 pub use product::round_product;

@@ -5,7 +5,12 @@ use crate::leaf::round;
 use crate::modes::rises;
 use division::Division;
 use division::divide;
+ghost use mathlib.Core.Bool.{false};
 ghost use mathlib.Core.Path.{_≡_};
+ghost use Prim.Native.Nat.{_<_, _≤_};
+ghost use Rattle.division.specs.Division.{most};
+ghost use Rattle.rounding.specs.declared.Rule.the-variants.{HalfUp};
+ghost use Rattle.rounding.specs.Leaf.{roundedMagnitude};
 ghost use Rattle.rounding.specs.Product.{roundedProduct};
 ghost use Rattle.rounding.specs.Short.{isShort};
 
@@ -45,4 +50,22 @@ pub fn round_product(rule: Rule, negative: bool, a: u64, b: u64, d: u64) -> u64
         return round(rule, negative, a * b, d);
     }
     round_wide(rule, negative, a, b, d)
+}
+
+// The magnitude of n / d by the rule HALF_UP: the quotient of a number that is greater by half the divisor, so that no rest is asked for.
+fn half_up(n: u64, d: u64) -> u64
+    requires { ⌜ (n ≤ most) × (0 < d) × (d ≤ most) ⌝ }
+    ensures { λ r. ⌜ r ≡ roundedMagnitude HalfUp false n d ⌝ }
+{
+    (n + d / 2) / d
+}
+
+// As round_product by the rule HALF_UP, which asks for neither the sign nor the parity.
+pub fn round_half_up(a: u64, b: u64, d: u64) -> u64
+    ensures { λ r. ⌜ r ≡ roundedProduct HalfUp false a b d ⌝ }
+{
+    if is_short(a, b, d) {
+        return half_up(a * b, d);
+    }
+    round_wide(Rule::HalfUp, false, a, b, d)
 }

@@ -1,12 +1,15 @@
 -- The factors are within the leaf's limits, and the fraction is the one of the definition. Assumes nothing.
 use mathlib.Core.Path.{_∙_, ap, ap₂}
-use Prim.Native.Nat.{ℕ, _*_, _≤_, _^_}
+use mathlib.Core.Bool.{false}
+use Prim.Native.Nat.{ℕ, _+_, _*_, _≤_, _^_}
 use native.Mathlib.Omega.{arith}
 use borrow.Author.Needs.{needs}
 use Rattle.whole.specs.Whole.{magnitudeOf, signedOf}
 use Rattle.rounding.specs.declared.Rule.the-variants.{HalfUp}
 use Rattle.rounding.specs.Product.{capped, roundedProduct}
+use Rattle.rounding.proofs.HalfUp.{either-sign}
 use Rattle.currency.specs.declared.Line.{Line}
+use Rattle.currency.specs.Tens.{powerOfTen}
 use Rattle.currency.proofs.Tables.{Good, in-table}
 use Rattle.euro.specs.Steps.{fromEuro}
 use Rattle.euro.proofs.Magnitudes.{from-euro-is, unit-fits}
@@ -36,8 +39,8 @@ bounded c = let s = c .before .before .before in rw (c .power-of-ten2 .ensures) 
 mul-unit : tie.Need-mul-unit
 mul-unit c = omega (arith, bounded (c .before))
 
-round-product-requires : tie.Need-round-product-requires
-round-product-requires c κs = search needs
+round-half-up-requires : tie.Need-round-half-up-requires
+round-half-up-requires c κs = search needs
 
 returns : tie.Need-returns
 returns c =
@@ -45,12 +48,13 @@ returns c =
     let s = p .before .before .before in
     let a = s .before .args in
     let l = s .line-of .result in
-    c .round-product .ensures
-    ∙ ap₂ (λ (x y : ℕ). roundedProduct HalfUp (a .negative) (a .m) (l .figures * y) x) (p .before .power-of-ten .ensures) (p .power-of-ten2 .ensures)
+    c .round-half-up .ensures
+    ∙ ap₂ (λ (x y : ℕ). roundedProduct HalfUp false (a .m) (l .figures * y) x) (p .before .power-of-ten .ensures) (p .power-of-ten2 .ensures)
+    ∙ either-sign (a .negative) (a .m) (l .figures * powerOfTen (l .digits)) (powerOfTen (l .places + a .decimals))
     ∙ from-euro-is l (good s) (a .decimals) (s .before .pre .1) (a .negative) (a .m) (s .before .pre .2)
     ∙ ap (λ (x : Line). capped (magnitudeOf (fromEuro x (a .decimals) (signedOf (a .negative) (a .m))))) (s .line-of .ensures)
 
 pub from-euro-spec : {M : Type 1} → statement M
 from-euro-spec =
     tie.close
-    (tie.spec line-of-requires add-power-of-ten power-of-ten-requires power-of-ten-requires-2 mul-unit round-product-requires returns)
+    (tie.spec line-of-requires add-power-of-ten power-of-ten-requires power-of-ten-requires-2 mul-unit round-half-up-requires returns)
