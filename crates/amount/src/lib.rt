@@ -1,4 +1,6 @@
 // Decimal amounts.
+#![tactic(auto)]
+
 use currency::Currency;
 use refusal::Refusal;
 
@@ -8,7 +10,7 @@ mod rescale;
 mod sum;
 
 // Its worth is coefficient / 10^scale.
-#[derive(Drop)]
+#[derive(Clone, Copy)]
 pub struct Amount {
     pub currency: Currency,
     pub scale: u8,
@@ -23,13 +25,13 @@ impl Amount {
 }
 
 // An answer that is an amount.
-#[derive(Drop)]
+#[derive(Clone, Copy)]
 pub enum Answer {
     Value(Amount),
     Refused(Refusal),
 }
 
-#[derive(Drop)]
+#[derive(Clone, Copy)]
 pub enum Order {
     Less,
     Equal,
@@ -37,7 +39,7 @@ pub enum Order {
 }
 
 // An answer that is an order.
-#[derive(Drop)]
+#[derive(Clone, Copy)]
 pub enum Ordered {
     Value(Order),
     Refused(Refusal),

@@ -1,4 +1,6 @@
 // The share book: an amount of money shared by weights, unit by unit, over any run of postings and refunds.
+#![tactic(auto)]
+
 use currency::Currency;
 use refusal::Checked;
 
@@ -12,7 +14,7 @@ mod weights;
 // A currency, a count of 1 to 16, sixteen weights (those past the count are 0) with sum W from 1 to 10,000, a net total from 0 to L, a card
 // number of 1 to 1,000, and sixteen settled totals (those past the count are 0), which with the net total sum to L at most. Any values may
 // come in: every call checks them all.
-#[derive(Drop)]
+#[derive(Clone, Copy)]
 pub struct Book {
     pub currency: Currency,
     pub count: u8,
@@ -33,7 +35,7 @@ impl Book {
 
 // What the rows of a given book need to know of its settled totals: whether one is over L, whether they and the net total sum to more than L,
 // whether one past the count isn't 0, whether one is negative, and their sum. Where one is over L nothing else is told.
-#[derive(Drop)]
+#[derive(Clone, Copy)]
 struct Past {
     over: bool,
     full: bool,
@@ -43,21 +45,21 @@ struct Past {
 }
 
 // Sums of settled totals: of those from 0 on, and of the magnitudes of those below.
-#[derive(Drop)]
+#[derive(Clone, Copy)]
 struct Sums {
     above: u64,
     below: u64,
 }
 
 // The answer of an opening: where it is refused, the book's every field is 0.
-#[derive(Drop)]
+#[derive(Clone, Copy)]
 pub struct Opened {
     pub outcome: Checked,
     pub book: Book,
 }
 
 // The answer of a posting, a refund or a new card: where it is refused, the given book and sixteen payouts of zero. A new card pays zeros.
-#[derive(Drop)]
+#[derive(Clone, Copy)]
 pub struct Moved {
     pub outcome: Checked,
     pub book: Book,
@@ -65,7 +67,7 @@ pub struct Moved {
 }
 
 // The running totals at the book's net total: where they are refused, sixteen zeros.
-#[derive(Drop)]
+#[derive(Clone, Copy)]
 pub struct Totals {
     pub outcome: Checked,
     pub totals: [u64; Book::PARTNERS],

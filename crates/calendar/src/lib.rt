@@ -1,10 +1,12 @@
 // The Gregorian calendar from 1900 to 2199, and the days between two dates by each basis.
+#![tactic(auto)]
+
 use refusal::Refusal;
 
 mod dates;
 mod days;
 
-#[derive(Drop)]
+#[derive(Clone, Copy)]
 pub struct Date {
     pub year: u16,
     pub month: u8,
@@ -12,7 +14,7 @@ pub struct Date {
 }
 
 // The answer of a day count.
-#[derive(Drop)]
+#[derive(Clone, Copy)]
 pub enum DayCount {
     Days(u32),
     Refused(Refusal),

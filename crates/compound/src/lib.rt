@@ -1,4 +1,6 @@
 // Compound tables: a principal and its balance after each period.
+#![tactic(auto)]
+
 ghost use Rattle.std.specs.Prelude.{◌≡◌, ◌++◌, length};
 ghost use Rattle.refusal.specs.Rows.{check_of, means_outcome, rate_rows};
 ghost use Rattle.whole.specs.Whole.{magnitude_of};

@@ -1,5 +1,7 @@
 // What the programs share: their input read on line by line, their output gathered and written, the verbs of their lines, the file that
 // their argument names, and their end with a status.
+#![tactic(auto)]
+
 use intake::Intake;
 
 mod feeds;
@@ -8,7 +10,7 @@ mod starts;
 mod verbs;
 
 // The input: how many of its bytes are held in a buffer, and where reading stands in them.
-#[derive(Drop)]
+#[derive(Clone, Copy)]
 pub struct Feed {
     pub held: usize,
     pub intake: Intake,
@@ -19,7 +21,7 @@ pub struct Feed {
 }
 
 // The output: how many bytes wait in a buffer to be written.
-#[derive(Drop)]
+#[derive(Clone, Copy)]
 pub struct Waiting {
     pub at: usize,
     // writing failed
@@ -27,14 +29,14 @@ pub struct Waiting {
 }
 
 // Where a program reads from: a descriptor, or nowhere, and then the status that it ends with.
-#[derive(Drop)]
+#[derive(Clone, Copy)]
 pub enum Source {
     From(i32),
     Nowhere(u8),
 }
 
 // The first word of a line.
-#[derive(Drop)]
+#[derive(Clone, Copy)]
 pub enum Verb {
     Round,
     Sum,

@@ -1,9 +1,11 @@
 // Currency numbers and the table of currencies.
+#![tactic(auto)]
+
 mod digits;
 mod table;
 
 // A currency number, 0 to 20: a kind of its own, so that scales, modes and currencies can't be mixed.
-#[derive(Drop)]
+#[derive(Clone, Copy)]
 pub struct Currency(pub u8);
 
 impl Currency {
@@ -12,7 +14,7 @@ impl Currency {
 }
 
 // A line of the table: the code's letters, K and k of the rate K / 10^k, and the currency's own scale.
-#[derive(Drop)]
+#[derive(Clone, Copy)]
 pub struct Line {
     pub code: [u8; 3],
     pub figures: u64,

@@ -9,7 +9,7 @@ use text::put_text;
 use whole::{is_negative, magnitude};
 
 // The answer of a call that needs no book.
-#[derive(Drop)]
+#[derive(Clone, Copy)]
 pub enum Reply {
     Unknown,
     Refused(Refusal),
@@ -25,7 +25,7 @@ pub enum Reply {
 
 // How the coefficients of an answer are put: as texts at a scale where the line's first currency, or the book's, was given by its code; else as
 // numbers.
-#[derive(Drop)]
+#[derive(Clone, Copy)]
 pub struct Style {
     pub coded: bool,
     pub scale: u8,

@@ -20,7 +20,7 @@ const FEW: usize = 12;
 const MANY: usize = 68;
 
 // A line's first word and the place behind it; and whether the line needed no book and is answered, with the place behind its answer.
-#[derive(Drop)]
+#[derive(Clone, Copy)]
 pub struct Plain {
     pub verb: Verb,
     pub from: usize,

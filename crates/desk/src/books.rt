@@ -11,14 +11,14 @@ use refusal::Checked;
 const WEIGHTS: usize = Book::PARTNERS + 1;
 
 // The current book, and whether its currency was given by its code.
-#[derive(Drop)]
+#[derive(Clone, Copy)]
 pub struct Current {
     pub book: Book,
     pub coded: bool,
 }
 
 // The place behind an answer, and the current book after it.
-#[derive(Drop)]
+#[derive(Clone, Copy)]
 pub struct Answered {
     pub at: usize,
     pub current: Current,

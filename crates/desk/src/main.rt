@@ -1,4 +1,6 @@
 // The library at a prompt: one answer line for each line of standard input, or of the file that the one argument names.
+#![tactic(auto)]
+
 mod answers;
 mod asking;
 mod booked;

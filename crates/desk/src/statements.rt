@@ -4,7 +4,7 @@ use crate::lists::room_at;
 use crate::reasons::{put_checked_any, put_view_any};
 use console::{Verb, put_named};
 use currency::Currency;
-use hex::{Decoded, put_hex, read_hex};
+use hexadecimal::{Decoded, put_hex, read_hex};
 use intake::{next_word, read_coefficients, read_places, u8_at, u64_at};
 use lines::put_bytes;
 use refusal::Checked;

@@ -10,7 +10,7 @@ use lines::put_bytes;
 // More bytes than an answer has: the longest is a comment of 4,000.
 const ANSWER: usize = 5_000;
 
-#[derive(Drop)]
+#[derive(Clone, Copy)]
 pub struct Desk {
     pub feed: Feed,
     pub waiting: Waiting,
@@ -68,7 +68,7 @@ fn close(mut desk: Desk, out: &[u8]) -> Desk {
 }
 
 // Where the lines that need no book stand, and whether another such line may follow.
-#[derive(Drop)]
+#[derive(Clone, Copy)]
 pub struct Standing {
     pub feed: Feed,
     pub waiting: Waiting,

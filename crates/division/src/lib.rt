@@ -1,9 +1,11 @@
 // A product of two factors divided by a number, with its rest, where no word holds the product.
+#![tactic(auto)]
+
 mod digits;
 mod parts;
 
 // A quotient and what is left.
-#[derive(Drop)]
+#[derive(Clone, Copy)]
 pub struct Division {
     pub quotient: u64,
     pub rest: u64,

@@ -1,4 +1,6 @@
 // Rows of a spreadsheet, whose columns are doubles, as amounts; and an amount as a double.
+#![tactic(auto)]
+
 use amount::Amount;
 use refusal::Refusal;
 
@@ -8,26 +10,26 @@ mod patterns;
 mod rows;
 
 // A row: the net and the tax.
-#[derive(Drop)]
+#[derive(Clone, Copy)]
 pub struct Row {
     pub net: f64,
     pub tax: f64,
 }
 
 // Both columns of a row.
-#[derive(Drop)]
+#[derive(Clone, Copy)]
 pub struct Amounts {
     pub net: Amount,
     pub tax: Amount,
 }
 
-#[derive(Drop)]
+#[derive(Clone, Copy)]
 pub enum Taken {
     Value(Amounts),
     Refused(Refusal),
 }
 
-#[derive(Drop)]
+#[derive(Clone, Copy)]
 pub enum Exported {
     Value(f64),
     Refused(Refusal),

@@ -1,6 +1,8 @@
 // What crosses to C and back: structs that C lays out alike, what the base is passed of the numbers in them, and every answer of the base
 // flattened. An enum can't cross: an answer is a struct with the refusal's number (0 where the call is accepted), the date that is blamed
 // (0 where none is) and the values. Where a call is refused these are 0, except that a posting, a refund and a run hand the given book back.
+#![tactic(auto)]
+
 use book::Book;
 
 mod amounts;
@@ -35,7 +37,7 @@ pub use wholes::flat_whole;
 
 // Its worth is coefficient / 10^scale.
 #[repr(C)]
-#[derive(Drop)]
+#[derive(Clone, Copy)]
 pub struct MkbAmount {
     pub currency: i32,
     pub scale: i32,
@@ -43,7 +45,7 @@ pub struct MkbAmount {
 }
 
 #[repr(C)]
-#[derive(Drop)]
+#[derive(Clone, Copy)]
 pub struct MkbDate {
     pub year: i32,
     pub month: i32,
@@ -52,7 +54,7 @@ pub struct MkbDate {
 
 // The card's number has as many bytes as a total, so that no place between the fields is unused.
 #[repr(C)]
-#[derive(Drop)]
+#[derive(Clone, Copy)]
 pub struct MkbBook {
     pub currency: i32,
     pub count: i32,
@@ -64,7 +66,7 @@ pub struct MkbBook {
 
 // A line of the table of currencies: the code's letters, K and k of the rate K / 10^k, and the currency's own scale.
 #[repr(C)]
-#[derive(Drop)]
+#[derive(Clone, Copy)]
 pub struct MkbLine {
     pub code: [u8; 3],
     pub places: u8,
@@ -73,7 +75,7 @@ pub struct MkbLine {
 }
 
 #[repr(C)]
-#[derive(Drop)]
+#[derive(Clone, Copy)]
 pub struct MkbWhole {
     pub refusal: u8,
     pub blamed: u8,
@@ -81,7 +83,7 @@ pub struct MkbWhole {
 }
 
 #[repr(C)]
-#[derive(Drop)]
+#[derive(Clone, Copy)]
 pub struct MkbAmountAnswer {
     pub refusal: u8,
     pub blamed: u8,
@@ -90,7 +92,7 @@ pub struct MkbAmountAnswer {
 
 // -1, 0 or 1.
 #[repr(C)]
-#[derive(Drop)]
+#[derive(Clone, Copy)]
 pub struct MkbOrderAnswer {
     pub refusal: u8,
     pub blamed: u8,
@@ -98,7 +100,7 @@ pub struct MkbOrderAnswer {
 }
 
 #[repr(C)]
-#[derive(Drop)]
+#[derive(Clone, Copy)]
 pub struct MkbDays {
     pub refusal: u8,
     pub blamed: u8,
@@ -106,7 +108,7 @@ pub struct MkbDays {
 }
 
 #[repr(C)]
-#[derive(Drop)]
+#[derive(Clone, Copy)]
 pub struct MkbSplit {
     pub refusal: u8,
     pub blamed: u8,
@@ -117,14 +119,14 @@ pub struct MkbSplit {
 
 // A row of a spreadsheet.
 #[repr(C)]
-#[derive(Drop)]
+#[derive(Clone, Copy)]
 pub struct MkbColumns {
     pub net: f64,
     pub tax: f64,
 }
 
 #[repr(C)]
-#[derive(Drop)]
+#[derive(Clone, Copy)]
 pub struct MkbRowAnswer {
     pub refusal: u8,
     pub blamed: u8,
@@ -133,7 +135,7 @@ pub struct MkbRowAnswer {
 }
 
 #[repr(C)]
-#[derive(Drop)]
+#[derive(Clone, Copy)]
 pub struct MkbDouble {
     pub refusal: u8,
     pub blamed: u8,
@@ -142,7 +144,7 @@ pub struct MkbDouble {
 
 // So many of the first places of a lent buffer are written.
 #[repr(C)]
-#[derive(Drop)]
+#[derive(Clone, Copy)]
 pub struct MkbWritten {
     pub refusal: u8,
     pub blamed: u8,
@@ -150,7 +152,7 @@ pub struct MkbWritten {
 }
 
 #[repr(C)]
-#[derive(Drop)]
+#[derive(Clone, Copy)]
 pub struct MkbOpened {
     pub refusal: u8,
     pub blamed: u8,
@@ -159,7 +161,7 @@ pub struct MkbOpened {
 
 // Where the call is refused, the given book, field for field, and noughts.
 #[repr(C)]
-#[derive(Drop)]
+#[derive(Clone, Copy)]
 pub struct MkbMoved {
     pub refusal: u8,
     pub blamed: u8,
@@ -168,7 +170,7 @@ pub struct MkbMoved {
 }
 
 #[repr(C)]
-#[derive(Drop)]
+#[derive(Clone, Copy)]
 pub struct MkbTotals {
     pub refusal: u8,
     pub blamed: u8,
@@ -177,7 +179,7 @@ pub struct MkbTotals {
 
 // The book after a run of calls, and how many were served; where the run is refused, the given book and none.
 #[repr(C)]
-#[derive(Drop)]
+#[derive(Clone, Copy)]
 pub struct MkbRan {
     pub refusal: u8,
     pub blamed: u8,
@@ -187,7 +189,7 @@ pub struct MkbRan {
 
 // The place behind a statement's last byte.
 #[repr(C)]
-#[derive(Drop)]
+#[derive(Clone, Copy)]
 pub struct MkbEnd {
     pub refusal: u8,
     pub blamed: u8,
@@ -196,7 +198,7 @@ pub struct MkbEnd {
 
 // What a statement says of itself: the first record's start, the count of its records and the sum of their coefficients.
 #[repr(C)]
-#[derive(Drop)]
+#[derive(Clone, Copy)]
 pub struct MkbStatement {
     pub refusal: u8,
     pub blamed: u8,
@@ -207,7 +209,7 @@ pub struct MkbStatement {
 
 // Where a view of a statement begins: the first record's start.
 #[repr(C)]
-#[derive(Drop)]
+#[derive(Clone, Copy)]
 pub struct MkbFirst {
     pub refusal: u8,
     pub blamed: u8,
@@ -217,7 +219,7 @@ pub struct MkbFirst {
 // What a view hands out at a place: the place of what comes next, and a record's numbers or that it has ended. The next place stands first, by
 // itself, since a walk waits for nothing else.
 #[repr(C)]
-#[derive(Drop)]
+#[derive(Clone, Copy)]
 pub struct MkbStep {
     pub next: u64,
     pub ended: bool,
@@ -228,7 +230,7 @@ pub struct MkbStep {
 
 // The same of a statement of either version, with its version.
 #[repr(C)]
-#[derive(Drop)]
+#[derive(Clone, Copy)]
 pub struct MkbAnyStatement {
     pub refusal: u8,
     pub blamed: u8,
@@ -240,7 +242,7 @@ pub struct MkbAnyStatement {
 
 // What a view of either version hands out at a place, with the reason.
 #[repr(C)]
-#[derive(Drop)]
+#[derive(Clone, Copy)]
 pub struct MkbAnyStep {
     pub next: u64,
     pub ended: bool,

@@ -1,5 +1,7 @@
 // Lines out of a stream that comes in chunks: the next line of the bytes that are held, what is kept for the next chunk, the first word of
 // a line that is too long to hold, and a line's numbers.
+#![tactic(auto)]
+
 mod cuts;
 mod keeping;
 mod leads;
@@ -11,7 +13,7 @@ mod numbers;
 pub const LONGEST: usize = 4_000;
 
 // Where reading stands in the bytes that are held.
-#[derive(Drop)]
+#[derive(Clone, Copy)]
 pub struct Intake {
     // the first byte that is not read yet
     pub from: usize,
@@ -22,7 +24,7 @@ pub struct Intake {
 }
 
 // What the bytes that are not read yet begin with.
-#[derive(Drop)]
+#[derive(Clone, Copy)]
 pub enum Found {
     // a line
     Line,
@@ -36,7 +38,7 @@ pub enum Found {
 
 // What was found; its first place among the bytes that are held and the place behind its last; whether it is a line that the end of the
 // input ends, and no newline; and where reading stands then.
-#[derive(Drop)]
+#[derive(Clone, Copy)]
 pub struct Cut {
     pub found: Found,
     pub start: usize,
@@ -47,7 +49,7 @@ pub struct Cut {
 
 // What is known of the first word of a line after some of its bytes: nothing but spaces came; it begins so, or is `open` or `card`, with a space
 // or a carriage return behind it; or it is another.
-#[derive(Drop)]
+#[derive(Clone, Copy)]
 pub enum Lead {
     Spaces,
     O,
@@ -63,7 +65,7 @@ pub enum Lead {
 }
 
 // What the input begins with: a byte order mark, the beginning of one and no more yet, or something else.
-#[derive(Drop)]
+#[derive(Clone, Copy)]
 pub enum Mark {
     Whole,
     Part,
@@ -71,7 +73,7 @@ pub enum Mark {
 }
 
 // The words behind a line's first: so many numbers, or not numbers alone.
-#[derive(Drop)]
+#[derive(Clone, Copy)]
 pub enum Given {
     Numbers(usize),
     Others,

@@ -1,4 +1,6 @@
 // Simple interest over days.
+#![tactic(auto)]
+
 mod accrual;
 
 pub use accrual::interest;

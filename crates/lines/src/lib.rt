@@ -1,17 +1,19 @@
 // Words and whole numbers of a line of text, read and written.
+#![tactic(auto)]
+
 mod numbers;
 mod texts;
 mod words;
 
 // A word of a line: from start up to end; an empty one where there is none.
-#[derive(Drop)]
+#[derive(Clone, Copy)]
 pub struct Word {
     pub start: usize,
     pub end: usize,
 }
 
 // A whole number as read: whether it has a minus, and its magnitude; or nothing.
-#[derive(Drop)]
+#[derive(Clone, Copy)]
 pub enum Number {
     Whole(bool, u64),
     Nothing,

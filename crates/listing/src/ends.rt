@@ -10,7 +10,7 @@ use whole::{is_negative, magnitude, signed};
 const LONGEST: usize = RECORDS * RECORD_WITH_REASON + TRAILER;
 
 // So many bytes of the file are left, and so many of these, their last, are held at the front of a buffer.
-#[derive(Drop)]
+#[derive(Clone, Copy)]
 pub struct Ending {
     pub left: u64,
     pub held: usize,

@@ -1,4 +1,6 @@
 // The statements of a file, walked from its end, the last one first, and what is before them.
+#![tactic(auto)]
+
 mod ends;
 mod outs;
 mod walks;

@@ -7,7 +7,7 @@ use statement::{FoundAny, check_any};
 // Some statements at once, so that a file of many small ones is not read many times over.
 const HELD: usize = 262_144;
 
-#[derive(Drop)]
+#[derive(Clone, Copy)]
 pub struct Walk {
     pub ending: Ending,
     pub waiting: Waiting,

@@ -1,5 +1,7 @@
 // Morskebab for C: every public function of the base under the prefix `mkb_`. The structs that cross, what is passed on of the numbers that C
 // gives, and the flattened answers are those of `flat`.
+#![tactic(auto)]
+
 mod amounts;
 mod books;
 mod days;

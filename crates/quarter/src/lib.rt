@@ -1,4 +1,6 @@
 // A quarter's file: its lines as they are read, what each asks for, and the book that an opening or a new card makes.
+#![tactic(auto)]
+
 use amount::Amount;
 use book::Book;
 use console::Feed;
@@ -9,7 +11,7 @@ mod books;
 mod meeting;
 
 // A line's first word, of those that a quarter's file has.
-#[derive(Drop)]
+#[derive(Clone, Copy)]
 pub enum First {
     Open,
     Card,
@@ -19,7 +21,7 @@ pub enum First {
 }
 
 // What a line asks for.
-#[derive(Drop)]
+#[derive(Clone, Copy)]
 pub enum Asked {
     // an empty line or a comment
     Nothing,
@@ -38,7 +40,7 @@ pub enum Asked {
 }
 
 // What the bytes that are held begin with: a line, one whose end is yet to come, or the end of the input.
-#[derive(Drop)]
+#[derive(Clone, Copy)]
 pub enum Next {
     Line(Asked),
     More,
@@ -47,7 +49,7 @@ pub enum Next {
 
 // What was met; where reading stands then; what is known of the first word of a line that is too long to hold; and where a line stands among the bytes
 // that are held, and whether it has no newline.
-#[derive(Drop)]
+#[derive(Clone, Copy)]
 pub struct Reading {
     pub feed: Feed,
     pub lead: Lead,
@@ -58,7 +60,7 @@ pub struct Reading {
 }
 
 // How a book was opened: not at all, by an `open` that is not understood, with a refusal's number, or as asked.
-#[derive(Drop)]
+#[derive(Clone, Copy)]
 pub enum Opening {
     Nothing,
     Unknown,
@@ -67,7 +69,7 @@ pub enum Opening {
 }
 
 // The book that an opening makes, and whether its currency was given by its code.
-#[derive(Drop)]
+#[derive(Clone, Copy)]
 pub struct Begun {
     pub opening: Opening,
     pub book: Book,

@@ -1,17 +1,19 @@
 // The refusals of document 01's table, and the answer of a check.
+#![tactic(auto)]
+
 ghost use Rattle.std.specs.Prelude.{◌≡◌};
 ghost use Rattle.refusal.specs.Number.{place_of, number_of, blamed_of, number_in, blamed_in};
 ghost use Rattle.refusal.specs.Rows.{check_of, rate_rows};
 
 // Which of a call's two dates a refusal blames.
-#[derive(Drop)]
+#[derive(Clone, Copy)]
 pub enum Blamed {
     First,
     Second,
 }
 
 // One case for each row of the table, and for those that document 02 adds, by number.
-#[derive(Drop)]
+#[derive(Clone, Copy)]
 pub enum Refusal {
     // 1: the mode isn't 0 to 6
     Mode,
@@ -50,7 +52,7 @@ pub enum Refusal {
 }
 
 // The answer of a check: nothing to refuse, or the first row that holds.
-#[derive(Drop)]
+#[derive(Clone, Copy)]
 pub enum Checked {
     Passed,
     Refused(Refusal),

@@ -8,7 +8,7 @@ use book::{Book, Moved};
 use bulk::run;
 use quarter::{Opening, begin, no_book};
 
-#[derive(Drop)]
+#[derive(Clone, Copy)]
 pub struct Account {
     pub opening: Opening,
     pub book: Book,

@@ -9,7 +9,7 @@ use std::num::wrapping_add_u64;
 use whole::magnitude;
 
 // How many cards, their net totals together, and each partner's shares rounded down and up, added over the cards.
-#[derive(Drop)]
+#[derive(Clone, Copy)]
 pub struct Cards {
     pub count: u64,
     pub net: u64,

@@ -6,7 +6,7 @@ use book::Book;
 use std::num::wrapping_add_u64;
 use whole::magnitude;
 
-#[derive(Drop)]
+#[derive(Clone, Copy)]
 pub enum Check {
     Well,
     // the partner at whom it fails

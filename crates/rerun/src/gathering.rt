@@ -11,7 +11,7 @@ pub const CALLS: usize = 8_192;
 const STRETCH: usize = 100_000;
 
 // What a stretch ends at.
-#[derive(Drop)]
+#[derive(Clone, Copy)]
 pub enum Met {
     Nothing,
     // no place is left for a call
@@ -32,7 +32,7 @@ pub enum Met {
     End,
 }
 
-#[derive(Drop)]
+#[derive(Clone, Copy)]
 pub struct Gathering {
     pub feed: Feed,
     // how many calls wait
@@ -52,7 +52,7 @@ pub struct Gathering {
 }
 
 // The currency and the digits of the amounts that may wait, where any may.
-#[derive(Drop)]
+#[derive(Clone, Copy)]
 pub struct Own {
     pub waits: bool,
     pub currency: u8,

@@ -1,4 +1,6 @@
 // A quarter again: the postings and refunds of standard input, or of the file that the one argument names, and a report on each book.
+#![tactic(auto)]
+
 mod accounts;
 mod cards;
 mod checks;

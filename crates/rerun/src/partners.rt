@@ -11,7 +11,7 @@ use std::num::wrapping_add_u64;
 use whole::magnitude;
 
 // A partner's numbers.
-#[derive(Drop)]
+#[derive(Clone, Copy)]
 pub struct Partner {
     // how its units are put
     pub style: Style,

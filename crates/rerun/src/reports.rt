@@ -12,7 +12,7 @@ use quarter::Opening;
 use whole::magnitude;
 
 // Where a report ends, and what it says: a check that failed, a line that was refused or not understood, an opening too.
-#[derive(Drop)]
+#[derive(Clone, Copy)]
 pub struct Report {
     pub at: usize,
     pub failed: bool,

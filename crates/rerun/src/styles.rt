@@ -4,7 +4,7 @@ use currency::{Currency, line_of};
 use lines::put_bytes;
 use text::put_text;
 
-#[derive(Drop)]
+#[derive(Clone, Copy)]
 pub struct Style {
     pub coded: bool,
     pub scale: u8,

@@ -11,7 +11,7 @@ pub const NUMBERS: usize = Refusal::LAST as usize + 1;
 // A place for what each partner got by postings, and one for what was taken back from it by refunds.
 pub const PLACES: usize = 2 * Book::PARTNERS;
 
-#[derive(Drop)]
+#[derive(Clone, Copy)]
 pub struct Tally {
     // how many calls got each number, and the line of the first that did
     pub times: [u64; NUMBERS],

@@ -22,7 +22,7 @@ const REPORT: usize = 8_000;
 const SAID: u64 = 1_000_000;
 
 // The reports: those that wait, what they say together, and how many lines were said to be done.
-#[derive(Drop)]
+#[derive(Clone, Copy)]
 pub struct Reports {
     pub waiting: Waiting,
     pub failed: bool,
@@ -30,7 +30,7 @@ pub struct Reports {
     pub said: u64,
 }
 
-#[derive(Drop)]
+#[derive(Clone, Copy)]
 pub struct Rerun {
     pub at: Gathering,
     pub account: Account,

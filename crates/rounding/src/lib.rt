@@ -1,4 +1,6 @@
 // Rounding: seven rules over one quotient of magnitudes, and the plain quotient over them.
+#![tactic(auto)]
+
 use refusal::Refusal;
 
 mod leaf;
@@ -7,7 +9,7 @@ mod plain;
 mod product;
 
 // The seven rules, in the order of their mode numbers.
-#[derive(Drop)]
+#[derive(Clone, Copy)]
 pub enum Rule {
     // away from zero
     Up,
@@ -26,7 +28,7 @@ pub enum Rule {
 }
 
 // The rest of a division against the half of its divisor.
-#[derive(Drop)]
+#[derive(Clone, Copy)]
 pub enum Rest {
     Exact,
     Below,
@@ -35,14 +37,14 @@ pub enum Rest {
 }
 
 // The rule that a mode number chooses.
-#[derive(Drop)]
+#[derive(Clone, Copy)]
 pub enum Choice {
     Chosen(Rule),
     Refused(Refusal),
 }
 
 // The answer of the plain quotient.
-#[derive(Drop)]
+#[derive(Clone, Copy)]
 pub enum Quotient {
     Value(i64),
     Refused(Refusal),

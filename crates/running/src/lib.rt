@@ -1,4 +1,6 @@
 // The running totals of sixteen places by their weights: whose the first n units are.
+#![tactic(auto)]
+
 mod full;
 mod taking;
 mod totals;

@@ -1,4 +1,6 @@
 // Sharing of one amount by largest remainder.
+#![tactic(auto)]
+
 ghost use Rattle.std.specs.Prelude.{◌≡◌, ◌++◌, length};
 ghost use Rattle.refusal.specs.Rows.{check_of, means_outcome};
 ghost use Rattle.amount.specs.Amounts.{amount_rows};

@@ -1,4 +1,6 @@
 // The words of a line behind its first, where a currency's code may stand for its number, and a code and a text for an amount's three numbers.
+#![tactic(auto)]
+
 use currency::Currency;
 use intake::Given;
 
@@ -6,7 +8,7 @@ mod hearing;
 mod reading;
 
 // What stands at a place among the numbers of a line: a number and nothing else, a currency, or an amount, which has three numbers.
-#[derive(Drop)]
+#[derive(Clone, Copy)]
 pub enum Kind {
     Plain,
     Unit,
@@ -14,14 +16,14 @@ pub enum Kind {
 }
 
 // The first place of a line's numbers and the fourth, which stands behind an amount: no other place has a currency.
-#[derive(Drop)]
+#[derive(Clone, Copy)]
 pub struct Form {
     pub first: Kind,
     pub fourth: Kind,
 }
 
 // What the words so far were.
-#[derive(Drop)]
+#[derive(Clone, Copy)]
 pub struct Heard {
     // so many numbers
     pub count: usize,
@@ -37,7 +39,7 @@ pub struct Heard {
 }
 
 // What a word is: a number, in front of which another may stand; and what is heard with it.
-#[derive(Drop)]
+#[derive(Clone, Copy)]
 pub struct Step {
     pub next: Heard,
     pub two: bool,
@@ -48,7 +50,7 @@ pub struct Step {
 
 // A line's words: how many numbers they are, or that they are not understood; whether the first is a currency given by its code; and the number of the
 // refusal of the first text that is refused, 0 where none is.
-#[derive(Drop)]
+#[derive(Clone, Copy)]
 pub struct Spoken {
     pub given: Given,
     pub coded: bool,

@@ -1,4 +1,6 @@
 // Statement files: a record for each payout and a trailer that points back, written into a lent buffer, and checked.
+#![tactic(auto)]
+
 ghost use Rattle.std.specs.Prelude.{◌≡◌};
 ghost use Rattle.statement.specs.Files.{version_of, record_width};
 
@@ -30,14 +32,14 @@ pub const RECORD_WITH_REASON: usize = 24;
 pub const TRAILER: usize = 24;
 
 // The answer of a run: the place behind the file's last byte, and 0 where the run is refused.
-#[derive(Drop)]
+#[derive(Clone, Copy)]
 pub struct Written {
     pub outcome: Checked,
     pub end: usize,
 }
 
 // A trailer's numbers, the sum as its word holds it.
-#[derive(Drop)]
+#[derive(Clone, Copy)]
 pub struct Trailer {
     pub distance: u64,
     pub count: u64,
@@ -47,7 +49,7 @@ pub struct Trailer {
 }
 
 // What a file says of itself: the first record's start, the count of its records and the sum of their coefficients.
-#[derive(Drop)]
+#[derive(Clone, Copy)]
 pub struct Summary {
     pub first: usize,
     pub count: usize,
@@ -55,7 +57,7 @@ pub struct Summary {
 }
 
 // The same of a file of either version, 1 or 2.
-#[derive(Drop)]
+#[derive(Clone, Copy)]
 pub struct SummaryOfAny {
     pub version: u16,
     pub first: usize,
@@ -64,7 +66,7 @@ pub struct SummaryOfAny {
 }
 
 // What a record says of one payout.
-#[derive(Drop)]
+#[derive(Clone, Copy)]
 pub struct Payout {
     pub place: u16,
     pub currency: u16,
@@ -72,7 +74,7 @@ pub struct Payout {
 }
 
 // What a record of either version says: reason 0 in version 1.
-#[derive(Drop)]
+#[derive(Clone, Copy)]
 pub struct Reasoned {
     pub place: u16,
     pub currency: u16,
@@ -81,28 +83,28 @@ pub struct Reasoned {
 }
 
 // What a walk over a file's records finds at a place.
-#[derive(Drop)]
+#[derive(Clone, Copy)]
 pub enum Step {
     Next(Payout),
     End,
 }
 
 // The same over the records of either version.
-#[derive(Drop)]
+#[derive(Clone, Copy)]
 pub enum AnyStep {
     Next(Reasoned),
     End,
 }
 
 // The answer of a check.
-#[derive(Drop)]
+#[derive(Clone, Copy)]
 pub enum Found {
     Value(Summary),
     Refused(Refusal),
 }
 
 // The same for a file of either version.
-#[derive(Drop)]
+#[derive(Clone, Copy)]
 pub enum FoundAny {
     Value(SummaryOfAny),
     Refused(Refusal),

@@ -1,4 +1,6 @@
 // The payouts of a quarter's file as statements for partners: standard input, or the file that the first argument names, and a new file that the second names.
+#![tactic(auto)]
+
 mod outs;
 mod records;
 mod turns;

@@ -9,7 +9,7 @@ use statement::{RECORD_WITH_REASON, RECORDS, TRAILER, write_reasons};
 // A byte and the longest statement.
 const LONGEST: usize = 1 + RECORDS * RECORD_WITH_REASON + TRAILER;
 
-#[derive(Drop)]
+#[derive(Clone, Copy)]
 pub struct Out {
     pub fd: i32,
     // a statement is written, but for its last byte

@@ -5,7 +5,7 @@ use book::Book;
 use whole::signed;
 
 // A payout to a place, or what a refund took back from it, with the code of a reason.
-#[derive(Drop)]
+#[derive(Clone, Copy)]
 pub struct Record {
     pub place: u16,
     pub payout: u64,

@@ -10,7 +10,7 @@ use intake::Lead;
 use quarter::{Asked, Next, Opening, Reading, begin, card_of, no_book, read_line};
 use statement::RECORDS;
 
-#[derive(Drop)]
+#[derive(Clone, Copy)]
 pub struct Statements {
     pub reading: Reading,
     // the current book, and whether an accepted opening made it

@@ -1,18 +1,20 @@
 // Tax in and out of a price.
+#![tactic(auto)]
+
 use amount::Amount;
 use refusal::Refusal;
 
 mod price;
 
 // A price taken apart: gross is net and tax together.
-#[derive(Drop)]
+#[derive(Clone, Copy)]
 pub struct Split {
     pub net: Amount,
     pub tax: Amount,
     pub gross: Amount,
 }
 
-#[derive(Drop)]
+#[derive(Clone, Copy)]
 pub enum Taxed {
     Value(Split),
     Refused(Refusal),

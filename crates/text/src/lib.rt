@@ -1,4 +1,6 @@
 // Amounts as ASCII text, read and written, and currencies by their codes.
+#![tactic(auto)]
+
 use refusal::Checked;
 
 mod codes;
@@ -7,7 +9,7 @@ mod reading;
 mod writing;
 
 // The answer of `write`: whether the text was written, and its length, 0 where it wasn't.
-#[derive(Drop)]
+#[derive(Clone, Copy)]
 pub struct Written {
     pub outcome: Checked,
     pub length: usize,

@@ -16,7 +16,7 @@ const CHARACTERS: usize = 20;
 const SHORT: usize = 17;
 
 // Where digits end, and the number that they make behind the digits before them.
-#[derive(Drop)]
+#[derive(Clone, Copy)]
 pub(crate) struct Counted {
     end: usize,
     number: u64,

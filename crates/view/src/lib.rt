@@ -1,5 +1,7 @@
 // Views of a statement: readers that keep hold of the statement's bytes and of their place among them, thin above the walk on plain bytes and a
 // place. Each function over one takes it apart and calls one on the bytes and the numbers. `View` reads version 1, `AnyView` both versions.
+#![tactic(auto)]
+
 ghost use Rattle.std.specs.Prelude.{false, ◌≡◌};
 ghost use Rattle.statement.specs.Walking.{step_at, place_after, any_step_at, any_place_after};
 ghost use Rattle.view.specs.Opening.{means_opened, open_said, means_opened_any, open_any_said};
@@ -8,14 +10,14 @@ use refusal::Refusal;
 use statement::{AnyStep, Found, FoundAny, Step, check, check_any};
 
 // The statement's bytes, and the place of the record that comes next.
-#[derive(Drop)]
+#[derive(Clone, Copy)]
 pub struct View<'a> {
     pub bytes: &'a [u8],
     pub at: usize,
 }
 
 // The answer of an opening: the place of the first record.
-#[derive(Drop)]
+#[derive(Clone, Copy)]
 pub enum Opened {
     At(usize),
     Refused(Refusal),
@@ -77,7 +79,7 @@ pub fn read_at(bytes: &[u8], at: usize) -> Step
 }
 
 // The statement's bytes, its version, and the place of the record that comes next.
-#[derive(Drop)]
+#[derive(Clone, Copy)]
 pub struct AnyView<'a> {
     pub bytes: &'a [u8],
     pub version: u16,
@@ -85,7 +87,7 @@ pub struct AnyView<'a> {
 }
 
 // The answer of an opening: the version, and the place of the first record.
-#[derive(Drop)]
+#[derive(Clone, Copy)]
 pub enum OpenedAny {
     At(u16, usize),
     Refused(Refusal),

@@ -1,4 +1,6 @@
 // Vouchers over a list of weights by highest average.
+#![tactic(auto)]
+
 ghost use Rattle.std.specs.Prelude.{◌≡◌, length};
 ghost use Rattle.refusal.specs.Rows.{check_of, means_outcome};
 ghost use Rattle.weights.specs.Lent.{out_after};

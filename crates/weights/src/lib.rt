@@ -1,4 +1,6 @@
 // A lent list of weights: its limits, its rows of the table and its sum.
+#![tactic(auto)]
+
 ghost use Rattle.std.specs.Prelude.{◌≡◌};
 ghost use Rattle.refusal.specs.Rows.{check_of};
 ghost use Rattle.weights.specs.Weights.{list_rows, weighed};

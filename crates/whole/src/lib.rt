@@ -1,5 +1,7 @@
 // Where signed and unsigned numbers meet: the sign and the magnitude of an i64, and the i64 of a sign and a magnitude.
 // Everything above computes on magnitudes.
+#![tactic(auto)]
+
 ghost use Rattle.std.specs.Prelude.{◌≡◌};
 ghost use Rattle.whole.specs.Whole.{negative, magnitude_of, held_signed};
 

@@ -1,0 +1,23 @@
+-- A figure below ten, else a letter. Assumes nothing.
+use borrow.Author.Tests.{lt-ltb, le-ltb}
+use Rattle.hexadecimal.specs.Hexadecimal.{digit_of}
+use borrow.Author.Rules.{rules}
+use Rattle.hexadecimal.proofs.putting.digit_of.Statement.{statement}
+use Rattle.hexadecimal.proofs.putting.digit_of.Tie as tie
+
+add-result : tie.Need-overflow-add-result
+add-result c = search rules
+
+add-result-2 : tie.Need-overflow-add-result-2
+add-result-2 c = search rules
+
+returns : tie.Need-returns
+unfolding digit_of
+returns c = rw (lt-ltb _ _ c.if1.true)
+
+returns-2 : tie.Need-returns-2
+unfolding digit_of
+returns-2 c = rw (le-ltb _ _ c.if1.false)
+
+pub digit-of-spec : {M : Type 1} → statement M
+digit-of-spec = tie.close (tie.spec add-result add-result-2 returns returns-2)
