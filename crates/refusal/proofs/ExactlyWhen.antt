@@ -51,6 +51,7 @@ in_order Newer = refl
 held_in_order : (n : ℕ) (rows : List Row) → Holds n rows → get_or asked (rank_of n) 0 ≡ n
 held_in_order n (row r b ∷ rows) (here x xs number holds) = subst (λ (m : ℕ). get_or asked (rank_of m) 0 ≡ m) number (in_order r)
 held_in_order n (x ∷ rows) (later y ys h) = held_in_order n rows h
+held_in_order n [] held = elim held [ ]
 
 same_rank : (r : Refusal) (n : ℕ) (rows : List Row) → Holds n rows → rank_of (number_of r) ≡ rank_of n → number_of r ≡ n
 same_rank r n rows h same = sym (in_order r) ∙ ap (λ (k : ℕ). get_or asked k 0) same ∙ held_in_order n rows h
@@ -70,6 +71,7 @@ from k (x ∷ rows) rises m (here y ys number holds) =
 from k (x ∷ rows) rises m (later y ys h) =
     le_trans (leb→le k (rank_at x) (and_left (leb k (rank_at x)) (rising_from (rank_at x) rows) rises))
     (from (rank_at x) rows (and_right (leb k (rank_at x)) (rising_from (rank_at x) rows) rises) m h)
+from k [] rises m held = elim held [ ]
 
 -- so the first row has the least rank
 first_least : (k : ℕ) (x : Row) (rows : List Row) → T (rising_from k (x ∷ rows)) → (m : ℕ) → Holds m (x ∷ rows) → rank_at x ≤ rank_of m
@@ -116,6 +118,7 @@ module _ {A : Type 0} (value : A) where
       holds_given (rank_of (number_of r)) n rows (and_right (leb k (rank_of (number_of r))) (rising_from (rank_of (number_of r)) rows) rises)
       (not_held r rows n h)
       (λ m less held. none m less (later (row r false) rows held))
+  holds_given k n [] rises h none = elim h [ ]
 
   -- THE LAW: for rows in the order in which they are asked, number n is given exactly when a row of n holds and no row before it does
   pub exactly_when : (n : ℕ) (rows : List Row) → T (rising rows) → Given value n rows ↔ (Holds n rows × NoneBelow n rows)

@@ -1,0 +1,57 @@
+-- A refused check is the row that it names; what passed has the opposite coefficient. Assumes nothing.
+use mathlib.Core.Path.{◌≡◌, sym, ◌∙◌, ap}
+use Prim.Native.Nat.{ℕ}
+use borrow.Author.Rules.{rules}
+use lib.IntN.{ℤ, neg_ℤ}
+use mir.Syntax.{w64}
+use mir.Val.{SFits}
+use mir.ValLaws.{to_z-of_z}
+use Rattle.refusal.specs.Rows.{Row, gives, check_of}
+use Rattle.refusal.proofs.Check.{passed, refused}
+use Rattle.whole.specs.Whole.{magnitude_of}
+use Rattle.whole.proofs.Laws.{read_back}
+use mathlib.Core.List.{List}
+use Rattle.amount.specs.declared.Amount.{Amount}
+use Rattle.amount.specs.Amounts.{amount_rows}
+use Rattle.amount.specs.Sum.{negate_said}
+use Rattle.amount.proofs.Limits.{sound, read_magnitude}
+use Rattle.amount.proofs.Amount.negate.Goals as goal
+
+-- the rows of an amount
+abbrev rowsOfOne : Amount → List Row
+rowsOfOne a = amount_rows a.scale (magnitude_of a.coefficient) a.currency
+
+-- the amount with a coefficient
+abbrev made : Amount → ℤ → Amount
+made a z = record { currency = a.currency; scale = a.scale; coefficient = z }
+
+pub opposite-requires : goal.opposite-requires
+opposite-requires c =
+    let own : SFits w64 c.args.self.coefficient = search rules in
+    let told : c.check_one.result ≡ check_of (rowsOfOne c.args.self) = let s = c in let a = s.args.self in c.check_one.ensures ∙ ap (λ (m : ℕ). check_of (amount_rows a.scale m a.currency-1)) (read_magnitude a.coefficient c.magnitude.result own c.magnitude.ensures) in
+    let k = c in
+    let s = k in
+    let a = s.args.self in
+    rw (to_z-of_z w64 a.coefficient own)
+    (sound a.scale (magnitude_of a.coefficient) a.currency-1 (sym told ∙ c.in-Passed.is)).within
+
+pub returns-in-Refused : goal.returns-in-Refused
+unfolding negate_said
+returns-in-Refused c =
+    let own : SFits w64 c.args.self.coefficient = search rules in
+    let told : c.check_one.result ≡ check_of (rowsOfOne c.args.self) = let s = c in let a = s.args.self in c.check_one.ensures ∙ ap (λ (m : ℕ). check_of (amount_rows a.scale m a.currency-1)) (read_magnitude a.coefficient c.magnitude.result own c.magnitude.ensures) in
+    let k = c in
+    let a = k.args.self in
+    sym (refused (gives (made a (neg_ℤ a.coefficient))) (rowsOfOne a) c.in-Refused.refusal (sym told ∙ c.in-Refused.is))
+
+pub returns-in-Passed : goal.returns-in-Passed
+unfolding negate_said
+returns-in-Passed c =
+    let own : SFits w64 c.args.self.coefficient = search rules in
+    let told : c.check_one.result ≡ check_of (rowsOfOne c.args.self) = let s = c in let a = s.args.self in c.check_one.ensures ∙ ap (λ (m : ℕ). check_of (amount_rows a.scale m a.currency-1)) (read_magnitude a.coefficient c.magnitude.result own c.magnitude.ensures) in
+    let e = c in
+    let s = e in
+    let a = s.args.self in
+    ap (λ (z : ℤ). gives (made a z))
+    (read_back c.opposite.result c.opposite.type-inv ∙ rw (to_z-of_z w64 a.coefficient own) at c.opposite.ensures)
+    ∙ sym (passed (gives (made a (neg_ℤ a.coefficient))) (rowsOfOne a) (sym told ∙ e.in-Passed.is))

@@ -1,0 +1,23 @@
+-- At each place the sum takes the settled total's place, and an i64 holds it. Assumes nothing.
+use mathlib.Core.Path.{◌≡◌, refl, sym, ap, ◌∙◌}
+use mathlib.Core.Bool.{false}
+use mathlib.Core.List.{List}
+use Prim.Native.Nat.{ℕ, ◌+◌, ◌-◌, ◌^◌, ◌≤◌, ◌<◌}
+use native.Mathlib.Omega.{arith}
+use borrow.Author.Rules.{rules}
+use lib.IntN.{ℤ, pos}
+use lib.ListN.{length, get_or}
+use mir.Syntax.{w64}
+use mir.Val.{to_z, of_z}
+use Rattle.whole.specs.Whole.{magnitude_of}
+use Rattle.whole.specs.Lists.{filled}
+use Rattle.whole.proofs.Laws.{held_within, read_back}
+use Rattle.whole.proofs.Lists.{fill_none, fill_more}
+use Rattle.book.specs.Checks.{added_by}
+use Rattle.book.proofs.cards.grown.Given as goal
+
+abbrev pub invariant-loop-i : goal.invariant-loop-i
+invariant-loop-i l = (l.i ≤ 16) × (l.grown ≡ filled 0 (added l.settled l.totals) l.i l.settled)
+
+abbrev pub decreases-loop-i : goal.decreases-loop-i
+decreases-loop-i l = 16 - l.i

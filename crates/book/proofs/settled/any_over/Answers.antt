@@ -1,0 +1,56 @@
+-- From the last place down, none of the places passed is over L. Assumes nothing.
+use mathlib.Core.Path.{◌≡◌, refl, sym, ap, subst, ◌∙◌}
+use mathlib.Core.Bool.{false}
+use Prim.Native.Nat.{ℕ, suc, ◌-◌, ◌≤◌, ◌<◌}
+use native.Mathlib.Omega.{arith}
+use borrow.Author.Rules.{rules}
+use borrow.Author.Tests.{lt-ltb, le-ltb}
+use lib.IntN.{pos}
+use lib.ListN.{length, get_or, drop}
+use Rattle.whole.specs.Whole.{magnitude_of}
+use Rattle.whole.proofs.Laws.{read_back}
+use Rattle.amount.specs.Amounts.{largest}
+use Rattle.book.specs.Settled.{far_off, any_over}
+use Rattle.book.proofs.SettledTotals.{none_past, none_earlier, some_at}
+use Rattle.book.proofs.settled.any_over.Goals as goal
+
+pub loop-i-init : goal.loop-i-init
+loop-i-init c =
+    let long : length c.args.t1 ≡ 16 = search rules in
+    let h = long in (omega arith, none_past far_off c.args.t1 16 (omega arith))
+
+pub overflow_sub-i : goal.overflow_sub-i
+overflow_sub-i c = omega arith
+
+pub offset_bounds-settled-i : goal.offset_bounds-settled-i
+offset_bounds-settled-i c = omega arith
+
+pub bounds-settled-i : goal.bounds-settled-i
+bounds-settled-i c = omega arith
+
+pub returns-then-magnitude-gt-L : goal.returns-then-magnitude-gt-L
+returns-then-magnitude-gt-L c =
+    let here : c.magnitude.result ≡ magnitude_of (get_or c.args.t1 (c.loop-i.i - 1) (pos 0)) = let z = get_or c.args.t1 (c.loop-i.i - 1) (pos 0) in c.magnitude.ensures ∙ ap magnitude_of (read_back z c.magnitude-arg-1.given) in
+    let s = c in
+    let zs = s.args.t1 in
+    let k = s.loop-i.i - 1 in
+    sym (some_at far_off refl zs k (lt-ltb largest (magnitude_of (get_or zs k (pos 0))) (omega (arith, c.if-magnitude-gt-L.true, here))))
+
+pub loop-i-smaller : goal.loop-i-smaller
+loop-i-smaller c = omega arith
+
+pub loop-i-preserved : goal.loop-i-preserved
+loop-i-preserved c =
+    let long : length c.args.t1 ≡ 16 = search rules in
+    let here : c.magnitude.result ≡ magnitude_of (get_or c.args.t1 (c.loop-i.i - 1) (pos 0)) = let z = get_or c.args.t1 (c.loop-i.i - 1) (pos 0) in c.magnitude.ensures ∙ ap magnitude_of (read_back z c.magnitude-arg-1.given) in
+    let s = c in
+    let zs = s.args.t1 in
+    let i = s.loop-i.i in
+    let h = long in
+    let e : i ≡ suc (i - 1) = omega arith in
+    let later : any_over (drop (suc (i - 1)) zs) ≡ false = subst (λ (k : ℕ). any_over (drop k zs) ≡ false) e s.loop-i.invariant.1 in
+    (omega arith, none_earlier far_off zs (i - 1) (omega arith) (le-ltb largest (magnitude_of (get_or zs (i - 1) (pos 0))) (omega (arith, c.if-magnitude-gt-L.false, here))) later)
+
+pub returns : goal.returns
+returns c = let e : c.loop-i.i ≡ 0 = omega arith in
+    sym c.loop-i.invariant.1 ∙ ap (λ (k : ℕ). any_over (drop k c.args.t1)) e

@@ -1,0 +1,37 @@
+-- A refused check is the answer; what passed has a sound book and room for every call, and all are served. Assumes nothing.
+use mathlib.Core.Path.{◌≡◌, sym, ap₂, ◌∙◌}
+use mathlib.Core.Bool.{Bool}
+use borrow.Author.Rules.{rules}
+use lib.ListN.{length}
+use Rattle.refusal.specs.Rows.{check_of}
+use Rattle.book.specs.Books.{listed_rows}
+use Rattle.bulk.specs.Runs.{run_rows}
+use Rattle.bulk.proofs.Answered.{run_fit, run_refused, run_passed}
+use Rattle.bulk.proofs.serving.run.Goals as goal
+
+pub serve-last-requires : goal.serve-last-requires
+serve-last-requires c =
+    let checked : let a = c.args in c.check.result ≡ check_of (run_rows a.book (length a.refunds.now) (length a.coefficients.now) (length a.payouts-1.now) (length a.numbers-1.now)) = let a = c.args in c.check.ensures ∙ ap₂ (λ (x y : Bool). check_of (listed_rows a.book x y)) c.unequal-broken.ensures c.too_short-short.ensures in
+    let told = c in
+    let k = told in
+    let a = k.args in
+    let fit = run_fit a.book (length a.refunds.now) (length a.coefficients.now) (length a.payouts-1.now) (length a.numbers-1.now) (sym checked ∙ told.in-Passed.is) in
+    (fit.0, fit.1)
+
+pub returns-in-Refused : goal.returns-in-Refused
+returns-in-Refused c =
+    let checked : let a = c.args in c.check.result ≡ check_of (run_rows a.book (length a.refunds.now) (length a.coefficients.now) (length a.payouts-1.now) (length a.numbers-1.now)) = let a = c.args in c.check.ensures ∙ ap₂ (λ (x y : Bool). check_of (listed_rows a.book x y)) c.unequal-broken.ensures c.too_short-short.ensures in
+    let k = c in
+    let a = k.args in
+    run_refused a.book a.refunds.now a.coefficients.now a.payouts-1.now a.numbers-1.now c.in-Refused.refusal
+    (sym checked ∙ c.in-Refused.is)
+
+pub returns-in-Passed : goal.returns-in-Passed
+returns-in-Passed c =
+    let checked : let a = c.args in c.check.result ≡ check_of (run_rows a.book (length a.refunds.now) (length a.coefficients.now) (length a.payouts-1.now) (length a.numbers-1.now)) = let a = c.args in c.check.ensures ∙ ap₂ (λ (x y : Bool). check_of (listed_rows a.book x y)) c.unequal-broken.ensures c.too_short-short.ensures in
+    let served = c in
+    let told = served in
+    let k = told in
+    let a = k.args in
+    run_passed a.book a.refunds.now a.coefficients.now a.payouts-1.now a.numbers-1.now
+    (sym checked ∙ told.in-Passed.is) served.serve-last.ensures

@@ -1,0 +1,17 @@
+-- After i turns the first i differences stand from the place on. Assumes nothing.
+use mathlib.Core.Path.{◌≡◌, refl, sym, ap, ◌∙◌}
+use Prim.Native.Nat.{◌-◌, ◌≤◌}
+use native.Mathlib.Omega.{arith}
+use borrow.Author.Rules.{rules}
+use lib.ListN.{length, get_or}
+use Rattle.book.specs.Moves.{less_of}
+use Rattle.running.proofs.Places.{less_place}
+use Rattle.whole.proofs.Lists.{fill_none, fill_more, length_filled}
+use Rattle.bulk.specs.Runs.{written}
+use Rattle.bulk.proofs.tabled.pay.Given as goal
+
+abbrev pub invariant-loop-i : goal.invariant-loop-i
+invariant-loop-i l = (l.i ≤ 16) × (l.out ≡ written l.initial.out l.at (less_of l.high l.low) l.i)
+
+abbrev pub decreases-loop-i : goal.decreases-loop-i
+decreases-loop-i l = 16 - l.i

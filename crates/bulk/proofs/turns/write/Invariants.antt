@@ -1,0 +1,15 @@
+-- After i turns the first i payouts stand from the place on. Assumes nothing.
+use mathlib.Core.Path.{◌≡◌, refl, ap, ◌∙◌}
+use Prim.Native.Nat.{◌-◌, ◌≤◌}
+use native.Mathlib.Omega.{arith}
+use borrow.Author.Rules.{rules}
+use lib.ListN.{length, get_or}
+use Rattle.whole.proofs.Lists.{fill_none, fill_more, length_filled}
+use Rattle.bulk.specs.Runs.{written}
+use Rattle.bulk.proofs.turns.write.Given as goal
+
+abbrev pub invariant-loop-i : goal.invariant-loop-i
+invariant-loop-i l = (l.i ≤ 16) × (l.out ≡ written l.initial.out l.at l.payouts l.i)
+
+abbrev pub decreases-loop-i : goal.decreases-loop-i
+decreases-loop-i l = 16 - l.i

@@ -1,0 +1,76 @@
+-- Each turn adds one place's bit. Assumes nothing.
+use mathlib.Core.Path.{◌≡◌, ap}
+use mathlib.Core.Logic.{⊎_elim}
+use mathlib.Core.List.{List}
+use Prim.Native.Nat.{ℕ, ◌-◌, ◌≤◌, ◌<◌}
+use native.Mathlib.Omega.{arith}
+use borrow.Author.Rules.{rules}
+use lib.ListN.{length, get_or}
+use Rattle.running.proofs.Fitting.{product}
+use Rattle.cycle.proofs.Bounds.{weight_within, total_within}
+use Rattle.cycle.proofs.RowBits.{Rowed, rowed_start, bits_below, power_within, rowed_one, rowed_none, rowed_end, rowed_fits}
+use Rattle.cycle.proofs.cycle.row.Goals as goal
+
+pub loop-i-init : goal.loop-i-init
+loop-i-init c = let a = c.args in rowed_start a.t1 a.t3 a.n
+
+pub overflow_mul-n : goal.overflow_mul-n
+overflow_mul-n c =
+    let long : length c.args.t1 ≡ 16 = search rules in
+    let s = c in
+    let a = s.args in
+    omega (arith, product a.n (get_or a.t1 c.loop-i.i 0) (omega (arith, s.requires.0.most)) (weight_within a.t1 a.sum s.requires.0 long c.loop-i.i c.loop-i-test.true))
+
+pub overflow_mul-held : goal.overflow_mul-held
+overflow_mul-held c =
+    let long : length c.args.t1 ≡ 16 = search rules in
+    let s = c in
+    let a = s.args in
+    let i = c.loop-i.i in
+    let h : get_or a.t3 i 0 ≤ 10000 = omega (
+      arith,
+      ap (λ (l : List ℕ). get_or l i 0) s.requires.1.1,
+      total_within a.t1 a.sum s.requires.0 long a.n i c.loop-i-test.true,
+      s.requires.0.most,
+    ) in
+    omega (arith, product (get_or a.t3 i 0) a.sum h s.requires.0.most)
+
+pub overflow_add-bits : goal.overflow_add-bits
+overflow_add-bits c =
+    let long : length c.args.t1 ≡ 16 = search rules in
+    let power : (c.loop-i.bits < 32768) × (c.loop-i.power ≤ 32768) = let s = c in let a = s.args in let l = c.loop-i in let h = power_within a.t1 a.sum s.requires.0 long a.n a.t3 s.requires.1.1 l.i l.bits l.power l.invariant c.loop-i-test.true in (omega (arith, h, bits_below a.t1 a.sum s.requires.0 long a.n a.t3 s.requires.1.1 l.i l.bits l.power l.invariant), h) in
+    omega (arith, power)
+
+pub overflow_mul-power : goal.overflow_mul-power
+overflow_mul-power c =
+    let long : length c.args.t1 ≡ 16 = search rules in
+    let power : (c.loop-i.bits < 32768) × (c.loop-i.power ≤ 32768) = let s = c in let a = s.args in let l = c.loop-i in let h = power_within a.t1 a.sum s.requires.0 long a.n a.t3 s.requires.1.1 l.i l.bits l.power l.invariant c.loop-i-test.true in (omega (arith, h, bits_below a.t1 a.sum s.requires.0 long a.n a.t3 s.requires.1.1 l.i l.bits l.power l.invariant), h) in
+    omega (arith, power)
+
+pub loop-i-preserved : goal.loop-i-preserved
+loop-i-preserved c =
+    let long : length c.args.t1 ≡ 16 = search rules in
+    let s = c in
+    let a = s.args in
+    let l = c.loop-i in
+    let inside = c.loop-i-test.true in
+    ⊎_elim
+    (λ w. rw w.1 (rowed_one a.t1 a.sum s.requires.0 long a.n a.t3 s.requires.1.1 l.i l.bits l.power l.invariant inside w.0.taken))
+    (λ w. rw w.1 (rowed_none a.t1 a.sum s.requires.0 long a.n a.t3 s.requires.1.1 l.i l.bits l.power l.invariant inside w.0.left))
+    c.if-n-weights.branch
+
+pub overflow_cast-result : goal.overflow_cast-result
+overflow_cast-result c =
+    let long : length c.args.t1 ≡ 16 = search rules in
+    let s = c in
+    let a = s.args in
+    let l = c.loop-i in
+    omega (arith, rowed_fits a.t1 a.sum s.requires.0 long a.n a.t3 s.requires.1.1 l.i l.bits l.power l.invariant c.loop-i-test.false)
+
+pub returns : goal.returns
+returns c =
+    let long : length c.args.t1 ≡ 16 = search rules in
+    let s = c in
+    let a = s.args in
+    let l = c.loop-i in
+    rowed_end a.t1 a.sum s.requires.0 long a.n a.t3 s.requires.1.1 l.i l.bits l.power l.invariant c.loop-i-test.false

@@ -1,0 +1,10 @@
+-- The two amounts, or what the refusal says of itself. Assumes nothing.
+use borrow.Author.Rules.{rules}
+use Rattle.flat.proofs.rows.flat_row.Goals as goal
+
+pub returns-in-Value : goal.returns-in-Value
+returns-in-Value c = simp (c.flat_amount.ensures, c.flat_amount-in-Value.ensures, c.in-Value.is)
+
+pub returns-in-Refused : goal.returns-in-Refused
+returns-in-Refused c = let n = c in
+    simp (n.number.ensures, c.blamed.ensures, c.no_amount.ensures, c.no_amount-in-Refused.ensures, n.in-Refused.is)

@@ -1,0 +1,12 @@
+-- After each turn one number more is written. Assumes nothing.
+use Prim.Native.Nat.{◌-◌}
+use borrow.Author.Rules.{rules}
+use Rattle.intake.specs.Numbers.{unsigned_at}
+use Rattle.intake.proofs.Listed.{Written, none_written, one_written, no_room, no_more}
+use Rattle.intake.proofs.lists.read_places.Given as goal
+
+abbrev pub invariant-loop-i : goal.invariant-loop-i
+invariant-loop-i l = Written (unsigned_at 65535 l.signs l.values) l.from l.to l.initial.places l.places l.count l.i
+
+abbrev pub decreases-loop-i : goal.decreases-loop-i
+decreases-loop-i l = l.to - l.i

@@ -1,0 +1,25 @@
+-- After each turn one weight more is written. Assumes nothing.
+use Prim.Native.Nat.{◌-◌}
+use borrow.Author.Rules.{rules}
+use Rattle.intake.specs.Numbers.{unsigned_at}
+use Rattle.intake.proofs.Listed.{Written, none_written, one_written, no_room, no_more}
+use Rattle.intake.proofs.lists.read_weights.Goals as goal
+
+pub loop-i-init : goal.loop-i-init
+loop-i-init c = none_written _ _ _ _
+
+pub shape_of-weights-then-weights-count : goal.shape_of-weights-then-weights-count
+shape_of-weights-then-weights-count c = c.loop-i.invariant.sized
+
+pub returns-then-weights-count : goal.returns-then-weights-count
+returns-then-weights-count c = no_room _ _ _ _ _ _ _ c.loop-i.invariant c.if-weights-count.true
+
+pub loop-i-preserved : goal.loop-i-preserved
+loop-i-preserved c = one_written _ _ _ _ _ _ _ c.loop-i.invariant _ c.loop-i-test.true c.if-weights-count.false
+    c.u32_at.ensures
+
+pub shape_of-weights : goal.shape_of-weights
+shape_of-weights c = c.loop-i.invariant.sized
+
+pub returns : goal.returns
+returns c = no_more _ _ _ _ _ _ _ c.loop-i.invariant c.loop-i-test.false

@@ -1,0 +1,11 @@
+-- The word is the first from the place on, or from the line's end, and `lines` places it within the line. Assumes nothing.
+use native.Mathlib.Omega.{arith}
+use borrow.Author.Rules.{rules}
+use Rattle.intake.proofs.Words.{next_word_lem}
+use Rattle.intake.proofs.numbers.next_word.Goals as goal
+
+pub returns-then-line-at : goal.returns-then-line-at
+returns-then-line-at c = next_word_lem _ _ _ _ (omega arith) c.word_from.ensures
+
+pub returns : goal.returns
+returns c = next_word_lem _ _ _ _ (omega arith) c.word_from-2.ensures

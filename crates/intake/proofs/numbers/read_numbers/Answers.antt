@@ -1,0 +1,47 @@
+-- After each turn one number more is taken. Assumes nothing.
+use Prim.Native.Nat.{◌-◌}
+use native.Mathlib.Omega.{arith}
+use borrow.Author.Rules.{rules}
+use borrow.Author.Tests.{not-true, not-false}
+use lib.ListN.{length}
+use Rattle.intake.proofs.Words.{Taken, none_taken, word_places, one_taken, empty_word, other_word, line_read}
+use Rattle.intake.proofs.numbers.read_numbers.Goals as goal
+
+pub loop-at-init : goal.loop-at-init
+loop-at-init c = none_taken _ _ _ _
+
+pub shape_of-signs-then-end-word : goal.shape_of-signs-then-end-word
+shape_of-signs-then-end-word c = c.loop-at.invariant.signs-sized
+
+pub shape_of-values-then-end-word : goal.shape_of-values-then-end-word
+shape_of-values-then-end-word c = c.loop-at.invariant.values-sized
+
+pub returns-then-end-word : goal.returns-then-end-word
+returns-then-end-word c = let l = c in
+    empty_word _ _ _ _ _ _ _ _ l.loop-at.invariant _ c.word_from-word.ensures c.if-end-word.true
+
+pub returns-then-not-take_number : goal.returns-then-not-take_number
+returns-then-not-take_number c = let e = c in
+    let l = e in
+    other_word _ _ _ _ _ _ _ _ l.loop-at.invariant _ e.word_from-word.ensures (omega arith) _ _ _
+    c.take_number.ensures (not-true _ c.if-not-take_number.true)
+
+pub loop-at-smaller : goal.loop-at-smaller
+loop-at-smaller c = let e = c in
+    let l = e in
+    omega (arith, word_places _ _ _ _ _ _ _ _ l.loop-at.invariant _ e.word_from-word.ensures (omega arith) (omega arith))
+
+pub loop-at-preserved : goal.loop-at-preserved
+loop-at-preserved c = let e = c in
+    let l = e in
+    one_taken _ _ _ _ _ _ _ _ l.loop-at.invariant _ e.word_from-word.ensures (omega arith) _ _ _
+    c.take_number.ensures (omega arith) (not-false _ c.if-not-take_number.false)
+
+pub shape_of-signs : goal.shape_of-signs
+shape_of-signs c = c.loop-at.invariant.signs-sized
+
+pub shape_of-values : goal.shape_of-values
+shape_of-values c = c.loop-at.invariant.values-sized
+
+pub returns : goal.returns
+returns c = line_read _ _ _ _ _ _ _ _ c.loop-at.invariant c.loop-at-test.false

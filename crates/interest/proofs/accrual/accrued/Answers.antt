@@ -1,0 +1,34 @@
+-- The factors are within their limits, so the leaf gives the rounded magnitude, which is at most twice the principal's and fits with its
+-- sign. Assumes nothing.
+use mathlib.Core.Path.{◌∙◌, ap}
+use Prim.Native.Nat.{ℕ, ◌*◌}
+use native.Mathlib.Omega.{arith}
+use borrow.Author.Rules.{rules}
+use Rattle.whole.specs.Whole.{held_signed}
+use Rattle.whole.proofs.Laws.{read_back}
+use Rattle.rounding.specs.Product.{rounded_product}
+use Rattle.interest.specs.Accrual.{accrued_to}
+use Rattle.calendar.proofs.Bases.{year_within}
+use Rattle.interest.proofs.Accrued.{points_fit, leaf, held}
+use Rattle.interest.proofs.accrual.accrued.Goals as goal
+
+pub overflow_mul-factor : goal.overflow_mul-factor
+overflow_mul-factor c = omega (arith, points_fit c.requires)
+
+pub overflow_mul-year_of : goal.overflow_mul-year_of
+overflow_mul-year_of c = omega (arith, c.year_of.ensures, year_within c.args.basis)
+
+pub overflow_cast-year_of : goal.overflow_cast-year_of
+overflow_cast-year_of c = omega (arith, c.year_of.ensures, year_within c.args.basis)
+
+pub returns : goal.returns
+unfolding accrued_to
+returns c = let s = c in
+    let a = s.args in
+    read_back c.signed.result c.signed.type-inv
+    ∙ c.signed.ensures
+    ∙ ap (held_signed a.negative)
+    (c.round_product-rounded.ensures
+    ∙ ap (λ (x : ℕ). rounded_product a.rule a.negative a.m (a.rate * a.days) (10000 * x)) c.year_of.ensures
+    ∙ leaf s.requires a.rule a.negative a.basis)
+    ∙ held s.requires a.rule a.negative a.basis

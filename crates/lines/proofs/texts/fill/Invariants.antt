@@ -1,0 +1,15 @@
+-- The loop's invariant: what is still to be written into the list as it is now makes of it what the whole writing makes of the first list.
+-- Assumes nothing.
+use mathlib.Core.Path.{◌≡◌, refl, sym, ◌∙◌}
+use Prim.Native.Nat.{◌≤◌}
+use native.Mathlib.Omega.{arith}
+use borrow.Author.Rules.{rules}
+use lib.ListN.{length, length-set}
+use Rattle.lines.proofs.Fills.{filled, fill_step, fill_end, Filled-put}
+use Rattle.lines.proofs.texts.fill.Given as goal
+
+abbrev pub invariant-loop-i : goal.invariant-loop-i
+invariant-loop-i l = (l.i ≤ l.count) × (length l.out ≡ length l.initial.out) × (filled l.out l.at l.i l.rest ≡ filled l.initial.out l.at l.count l.m)
+
+abbrev pub decreases-loop-i : goal.decreases-loop-i
+decreases-loop-i l = l.i

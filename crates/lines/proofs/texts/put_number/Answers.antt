@@ -1,0 +1,13 @@
+-- Below 0 the text is that with a minus, else the digits alone. Assumes nothing.
+use mathlib.Core.Path.{sym, ◌∙◌}
+use borrow.Author.Rules.{rules}
+use Rattle.lines.specs.Texts.{text_of}
+use Rattle.lines.proofs.texts.put_number.Goals as goal
+
+pub returns-then-below_zero : goal.returns-then-below_zero
+unfolding text_of
+returns-then-below_zero c = rw (sym c.below_zero.ensures ∙ c.if-below_zero.true) c.put_negative.ensures
+
+pub returns-else-below_zero : goal.returns-else-below_zero
+unfolding text_of
+returns-else-below_zero c = rw (sym c.below_zero.ensures ∙ c.if-below_zero.false) c.put_unsigned.ensures

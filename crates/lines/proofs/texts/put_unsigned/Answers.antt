@@ -1,0 +1,21 @@
+-- Where the digits have room they are written, else nothing is. Assumes nothing.
+use mathlib.Core.Path.{sym, ◌∙◌, ap}
+use Prim.Native.Nat.{ℕ, ◌+◌, ◌≤◌}
+use native.Mathlib.Omega.{arith}
+use borrow.Author.Rules.{rules}
+use lib.ListN.{length}
+use Rattle.lines.specs.Texts.{decimal}
+use Rattle.lines.proofs.Fills.{no_room, behind}
+use Rattle.lines.proofs.texts.put_unsigned.Goals as goal
+
+pub returns-then-out-at : goal.returns-then-out-at
+returns-then-out-at c = let s = c in no_room s.args.out.now s.args.at (decimal 20 s.args.m) (omega arith)
+
+pub returns-then-out-at-2 : goal.returns-then-out-at-2
+returns-then-out-at-2 c = let s = c in no_room s.args.out.now s.args.at (decimal 20 s.args.m) (omega (arith, c.places-count.ensures))
+
+pub returns : goal.returns
+returns c = let s = c in
+    let count = c.places-count in
+    let room : s.args.at + length (decimal 20 s.args.m) ≤ length s.args.out.now = omega (arith, count.ensures) in
+    (c.fill.ensures, ap (λ (k : ℕ). s.args.at + k) count.ensures ∙ sym (behind s.args.out.now s.args.at (decimal 20 s.args.m) room))

@@ -1,0 +1,17 @@
+-- What `write` answers, flattened, and the buffer as it leaves it. Assumes nothing.
+use mathlib.Core.Path.{◌≡◌, refl, sym, ◌∙◌, ap, ap₂}
+use native.Mathlib.Omega.{arith}
+use mir.Syntax.{w64}
+use mir.ValLaws.{to_z-of_z}
+use Rattle.flat.proofs.Ends.{end_said}
+use borrow.Author.Rules.{rules}
+use Rattle.morskebab.proofs.statements.mkb_write_statement.Goals as goal
+
+pub returns : goal.returns
+returns c = let a = c in
+    let w = c.write-written in
+    let currency = simp (to_z-of_z w64 a.args.currency a.ranges.currency) at c.given_currency.ensures in
+    let start = simp (to_z-of_z w64 a.args.start a.ranges.start) at c.pass_u64.ensures in (
+      c.flat_end.ensures ∙ end_said w.result _ (simp (currency, start) at w.ensures.0) (simp (currency, start) at w.ensures.1.0),
+      simp (currency, start) at w.ensures.1.1,
+    )

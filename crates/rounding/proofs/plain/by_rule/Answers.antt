@@ -1,0 +1,40 @@
+-- A refused check is the row that it names, and what passed is the rounded quotient. Assumes nothing.
+use mathlib.Core.Path.{◌≡◌, sym, ◌∙◌, ap}
+use Prim.Native.Nat.{ℕ, ◌*◌}
+use borrow.Author.Rules.{rules}
+use lib.IntN.{ℤ}
+use Rattle.refusal.specs.Rows.{Said, gives, check_of, first_row}
+use Rattle.refusal.proofs.Check.{passed, refused}
+use Rattle.whole.specs.Whole.{magnitude_of, signed_of, held_signed}
+use Rattle.whole.proofs.Laws.{magnitude_signed, read_back}
+use Rattle.rounding.specs.Leaf.{rounded_magnitude}
+use Rattle.rounding.specs.Found.{found_quotient}
+use Rattle.rounding.specs.Plain.{plain_rows, behind_mode}
+use Rattle.rounding.proofs.PlainRows.{same_rows, held_quotient}
+use Rattle.rounding.proofs.plain.by_rule.Goals as goal
+
+pub returns-in-Refused : goal.returns-in-Refused
+returns-in-Refused c =
+    let told : let a = c.args in c.check.result ≡ check_of (plain_rows a.a a.b a.d (found_quotient a.rule a.negative a.a a.b a.d)) = let a = c.args in c.check.ensures ∙ ap (λ (q : ℕ). check_of (plain_rows a.a a.b a.d q)) c.quotient-found.ensures in
+    let said : let a = c.args in let q = signed_of a.negative (rounded_magnitude a.rule a.negative (a.a * a.b) a.d) in first_row (plain_rows a.a a.b a.d (found_quotient a.rule a.negative a.a a.b a.d)) (gives q) ≡ behind_mode a.a a.b a.d q = let a = c.args in let m = rounded_magnitude a.rule a.negative (a.a * a.b) a.d in let q = signed_of a.negative m in same_rows a.rule a.negative a.a a.b a.d (gives q) ∙ ap (λ (x : ℕ). first_row (plain_rows a.a a.b a.d x) (gives q)) (sym (magnitude_signed a.negative m)) in
+    let k = c in
+    let a = k.args in
+    let q = signed_of a.negative (rounded_magnitude a.rule a.negative (a.a * a.b) a.d) in
+    sym
+    (refused (gives q) (plain_rows a.a a.b a.d (found_quotient a.rule a.negative a.a a.b a.d))
+    c.in-Refused.refusal (sym told ∙ c.in-Refused.is))
+    ∙ said
+
+pub returns-in-Passed : goal.returns-in-Passed
+returns-in-Passed c =
+    let told : let a = c.args in c.check.result ≡ check_of (plain_rows a.a a.b a.d (found_quotient a.rule a.negative a.a a.b a.d)) = let a = c.args in c.check.ensures ∙ ap (λ (q : ℕ). check_of (plain_rows a.a a.b a.d q)) c.quotient-found.ensures in
+    let said : let a = c.args in let q = signed_of a.negative (rounded_magnitude a.rule a.negative (a.a * a.b) a.d) in first_row (plain_rows a.a a.b a.d (found_quotient a.rule a.negative a.a a.b a.d)) (gives q) ≡ behind_mode a.a a.b a.d q = let a = c.args in let m = rounded_magnitude a.rule a.negative (a.a * a.b) a.d in let q = signed_of a.negative m in same_rows a.rule a.negative a.a a.b a.d (gives q) ∙ ap (λ (x : ℕ). first_row (plain_rows a.a a.b a.d x) (gives q)) (sym (magnitude_signed a.negative m)) in
+    let k = c in
+    let a = k.args in
+    let q = signed_of a.negative (rounded_magnitude a.rule a.negative (a.a * a.b) a.d) in
+    let clear = sym told ∙ c.in-Passed.is in
+    ap gives
+    (read_back c.signed.result c.signed.type-inv ∙ c.signed.ensures ∙ ap (held_signed a.negative) k.quotient-found.ensures
+    ∙ held_quotient a.rule a.negative a.a a.b a.d clear)
+    ∙ sym (passed (gives q) (plain_rows a.a a.b a.d (found_quotient a.rule a.negative a.a a.b a.d)) clear)
+    ∙ said

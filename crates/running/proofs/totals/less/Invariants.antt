@@ -1,0 +1,18 @@
+-- At each place the difference takes the place of the greater total. Assumes nothing.
+use mathlib.Core.Path.{◌≡◌, sym, ap, ◌∙◌}
+use mathlib.Core.List.{List}
+use Prim.Native.Nat.{ℕ, ◌-◌, ◌≤◌}
+use native.Mathlib.Omega.{arith}
+use borrow.Author.Rules.{rules}
+use lib.ListN.{length, get_or}
+use Rattle.running.specs.Totals.{less_of}
+use Rattle.whole.specs.Lists.{filled}
+use Rattle.whole.proofs.Lists.{fill_none, filled_behind}
+use Rattle.running.proofs.Places.{fill_next, filled_whole, length_less, less_place}
+use Rattle.running.proofs.totals.less.Given as goal
+
+abbrev pub invariant-loop-i : goal.invariant-loop-i
+invariant-loop-i l = (l.i ≤ 16) × (l.rest ≡ filled 0 (difference l.initial.rest l.low) l.i l.initial.rest)
+
+abbrev pub decreases-loop-i : goal.decreases-loop-i
+decreases-loop-i l = 16 - l.i

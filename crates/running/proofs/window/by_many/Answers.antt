@@ -1,0 +1,9 @@
+-- Ten thousand slots serve any window. Assumes nothing.
+use mathlib.Core.Path.{refl}
+use native.Mathlib.Omega.{arith}
+use borrow.Author.Rules.{rules}
+use Rattle.running.proofs.window.by_many.Goals as goal
+
+pub by_slots-requires : goal.by_slots-requires
+by_slots-requires c = let s = c in
+    (s.requires.0, (s.requires.1, record { fits = omega (arith, s.requires.0.part); empty = refl }))

@@ -1,0 +1,114 @@
+-- Each turn lays unit m + 1 down in its slot, and carries the quotient to the next. Assumes nothing.
+use mathlib.Core.Path.{◌≡◌, ap, ◌∙◌}
+use mathlib.Core.Logic.{⊎_elim}
+use Prim.Native.Nat.{ℕ, ◌+◌, ◌-◌, ◌*◌, ◌≤◌}
+use native.Mathlib.Nat.{mod-lt, div-le_self}
+use native.Mathlib.Omega.{arith}
+use lib.ListN.{length, get_or}
+use Rattle.units.specs.Calendar.{bump}
+use Rattle.running.proofs.Laid.{Laid, laid_start, first_product, slot_after, slot_in, slot_small, slot_room, next_unit, carried_unit, next_within, carried_within, laid_end, length_fill}
+use Rattle.running.proofs.window.lay.Goals as goal
+
+pub nonzero_div-step : goal.nonzero_div-step
+nonzero_div-step c = c.requires.weighs
+
+pub nonzero_rem-more : goal.nonzero_rem-more
+nonzero_rem-more c = c.requires.weighs
+
+pub overflow_sub-back : goal.overflow_sub-back
+overflow_sub-back c = omega (arith, mod-lt c.args.sum {m = c.args.weight} c.requires.weighs)
+
+pub overflow_mul-q : goal.overflow_mul-q
+overflow_mul-q c =
+    let product : c.args.first * c.args.sum ≤ 100000000 = let a = c.args in first_product a.weight a.sum a.u a.first a.full a.slots.now c.requires in
+    omega (arith, product)
+
+pub nonzero_div-q : goal.nonzero_div-q
+nonzero_div-q c = c.requires.weighs
+
+pub overflow_mul-r : goal.overflow_mul-r
+overflow_mul-r c =
+    let product : c.args.first * c.args.sum ≤ 100000000 = let a = c.args in first_product a.weight a.sum a.u a.first a.full a.slots.now c.requires in
+    omega (arith, product)
+
+pub nonzero_rem-r : goal.nonzero_rem-r
+nonzero_rem-r c = c.requires.weighs
+
+pub loop-m-init : goal.loop-m-init
+loop-m-init c = let a = c.args in laid_start a.weight a.sum a.u a.first a.full a.slots.now c.requires
+
+pub overflow_sub-slots : goal.overflow_sub-slots
+overflow_sub-slots c =
+    let after : c.args.u ≤ c.loop-m.q = let a = c.args in let l = c.loop-m in slot_after a.weight a.sum a.u a.first a.full a.slots.now c.requires l.m l.q l.r l.slots l.invariant c.loop-m-test.true in
+    after
+
+pub overflow_cast-slots : goal.overflow_cast-slots
+overflow_cast-slots c =
+    let low : c.loop-m.q ≤ 100000000 = let a = c.args in let l = c.loop-m in slot_small a.weight a.sum a.u a.first a.full a.slots.now c.requires l.m l.q l.r l.slots l.invariant c.loop-m-test.true in
+    omega (arith, low)
+
+pub offset_bounds-slots-q : goal.offset_bounds-slots-q
+offset_bounds-slots-q c =
+    let low : c.loop-m.q ≤ 100000000 = let a = c.args in let l = c.loop-m in slot_small a.weight a.sum a.u a.first a.full a.slots.now c.requires l.m l.q l.r l.slots l.invariant c.loop-m-test.true in
+    omega (arith, low)
+
+pub bounds-slots-q : goal.bounds-slots-q
+bounds-slots-q c =
+    let inside : c.loop-m.q - c.args.u + 1 ≤ length c.loop-m.slots = let a = c.args in let l = c.loop-m in omega (arith, slot_in a.weight a.sum a.u a.first a.full a.slots.now c.requires l.m l.q l.r l.slots l.invariant c.loop-m-test.true) in
+    omega (arith, inside)
+
+pub overflow_add-slots : goal.overflow_add-slots
+overflow_add-slots c = let a = c.args in
+    let l = c.loop-m in
+    omega (arith, slot_room a.weight a.sum a.u a.first a.full a.slots.now c.requires l.m l.q l.r l.slots l.invariant c.loop-m-test.true)
+
+pub bounds-slots-q-in-loop-m : goal.bounds-slots-q-in-loop-m
+bounds-slots-q-in-loop-m c =
+    let inside : c.loop-m.q - c.args.u + 1 ≤ length c.loop-m.slots = let a = c.args in let l = c.loop-m in omega (arith, slot_in a.weight a.sum a.u a.first a.full a.slots.now c.requires l.m l.q l.r l.slots l.invariant c.loop-m-test.true) in
+    omega (arith, inside)
+
+pub overflow_add-q : goal.overflow_add-q
+overflow_add-q c = let s = c in
+    let a = s.args in
+    let l = c.loop-m in
+    omega (arith, next_within a.weight a.sum a.u a.first a.full a.slots.now s.requires l.m l.q l.r l.slots l.invariant c.loop-m-test.true c.if-r-back.true)
+
+pub overflow_add-r : goal.overflow_add-r
+overflow_add-r c = let s = c in omega (arith, s.requires.heavy)
+
+pub overflow_add-q-else-r-back : goal.overflow_add-q-else-r-back
+overflow_add-q-else-r-back c = let s = c in omega (arith, div-le_self s.args.sum s.args.weight, s.requires.most)
+
+pub overflow_add-q-else-r-back-2 : goal.overflow_add-q-else-r-back-2
+overflow_add-q-else-r-back-2 c = let s = c in
+    let a = s.args in
+    let l = c.loop-m in
+    omega (arith, carried_within a.weight a.sum a.u a.first a.full a.slots.now s.requires l.m l.q l.r l.slots l.invariant c.loop-m-test.true c.if-r-back.false)
+
+pub overflow_add-m : goal.overflow_add-m
+overflow_add-m c = let s = c in omega (arith, s.ranges.full.fits)
+
+pub loop-m-smaller : goal.loop-m-smaller
+loop-m-smaller c = omega arith
+
+pub loop-m-preserved : goal.loop-m-preserved
+loop-m-preserved c = let s = c in
+    let a = s.args in
+    let l = c.loop-m in
+    let taken = c.loop-m-test.true in
+    ⊎_elim
+    (λ w. rw (w.1, w.2)
+    (next_unit a.weight a.sum a.u a.first a.full a.slots.now s.requires l.m l.q l.r l.slots l.invariant taken w.0.taken))
+    (λ w. rw (w.1, w.2)
+    (carried_unit a.weight a.sum a.u a.first a.full a.slots.now s.requires l.m l.q l.r l.slots l.invariant taken w.0.left))
+    c.if-r-back.branch
+
+pub shape_of-slots : goal.shape_of-slots
+shape_of-slots c = let a = c.args in
+    let l = c.loop-m in
+    ap length l.invariant.laid ∙ length_fill a.weight a.sum a.u a.first a.slots.now (l.m - a.first)
+
+pub returns : goal.returns
+returns c = let a = c.args in
+    let l = c.loop-m in
+    laid_end a.weight a.sum a.u a.first a.full a.slots.now c.requires l.m l.q l.r l.slots l.invariant c.loop-m-test.false

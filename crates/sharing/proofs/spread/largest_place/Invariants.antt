@@ -1,0 +1,16 @@
+-- The place and its remainder are those of the largest among the places passed. Assumes nothing.
+use mathlib.Core.Path.{◌≡◌, refl, sym, ◌∙◌, ap}
+use mathlib.Core.Logic.{⊎_elim}
+use Prim.Native.Nat.{ℕ, ◌-◌, ◌≤◌}
+use native.Mathlib.Omega.{arith}
+use borrow.Author.Rules.{rules}
+use lib.ListN.{length, get_or}
+use Rattle.remainder.specs.Rule.{largest}
+use Rattle.remainder.proofs.Largest.{scan_start, scan_larger, scan_past}
+use Rattle.sharing.proofs.spread.largest_place.Given as goal
+
+abbrev pub invariant-loop-i : goal.invariant-loop-i
+invariant-loop-i l = (l.i ≤ length l.rests) × (l.place ≡ largest l.rests l.i) × (l.top ≡ get_or l.rests l.place 0)
+
+abbrev pub decreases-loop-i : goal.decreases-loop-i
+decreases-loop-i l = length l.rests - l.i

@@ -1,0 +1,44 @@
+-- The place found is that of the largest remainder, and its share, at most the sum of them all, takes one more.
+-- Assumes nothing.
+use mathlib.Core.Path.{ap}
+use Prim.Native.Nat.{ℕ, ◌+◌, ◌<◌}
+use native.Mathlib.Omega.{arith}
+use borrow.Author.Rules.{rules}
+use lib.ListN.{length, get_or, set}
+use Rattle.remainder.specs.Rule.{largest}
+use Rattle.whole.proofs.Sums.{place_within}
+use Rattle.remainder.proofs.Largest.{largest_is}
+use Rattle.sharing.proofs.spread.serve_one.Goals as goal
+
+pub offset_bounds-shares-place : goal.offset_bounds-shares-place
+offset_bounds-shares-place c =
+    let inside : c.largest_place-place.result < length c.args.rests.now = let rests = c.args.rests.now in omega (arith, (largest_is rests (length rests) (omega arith)).below) in
+    omega (arith, inside)
+
+pub bounds-shares-place : goal.bounds-shares-place
+bounds-shares-place c =
+    let inside : c.largest_place-place.result < length c.args.rests.now = let rests = c.args.rests.now in omega (arith, (largest_is rests (length rests) (omega arith)).below) in
+    omega (arith, inside)
+
+pub overflow_add-shares : goal.overflow_add-shares
+overflow_add-shares c = omega (arith, place_within c.args.shares.now c.largest_place-place.result)
+
+pub bounds-shares-place-2 : goal.bounds-shares-place-2
+bounds-shares-place-2 c =
+    let inside : c.largest_place-place.result < length c.args.rests.now = let rests = c.args.rests.now in omega (arith, (largest_is rests (length rests) (omega arith)).below) in
+    omega (arith, inside)
+
+pub offset_bounds-rests-place : goal.offset_bounds-rests-place
+offset_bounds-rests-place c =
+    let inside : c.largest_place-place.result < length c.args.rests.now = let rests = c.args.rests.now in omega (arith, (largest_is rests (length rests) (omega arith)).below) in
+    omega (arith, inside)
+
+pub bounds-rests-place : goal.bounds-rests-place
+bounds-rests-place c =
+    let inside : c.largest_place-place.result < length c.args.rests.now = let rests = c.args.rests.now in omega (arith, (largest_is rests (length rests) (omega arith)).below) in
+    omega (arith, inside)
+
+pub returns : goal.returns
+returns c = let a = c.args in
+    let at = c.largest_place-place.ensures in
+    (ap (λ (p : ℕ). set a.shares.now p (get_or a.shares.now p 0 + 1)) at, ap (λ (p : ℕ). set a.rests.now p 0) at)

@@ -1,0 +1,31 @@
+-- A refused check leaves the buffer as it stood; what passed has room for its file. Assumes nothing.
+use mathlib.Core.Path.{◌≡◌, refl, sym, ◌∙◌, ap, ap₂}
+use native.Mathlib.Omega.{arith}
+use borrow.Author.Rules.{rules}
+use mathlib.Core.Bool.{false}
+use mathlib.Core.List.{[]}
+use Prim.Native.Nat.{ℕ, ◌+◌}
+use lib.ListN.{length}
+use Rattle.statement.specs.Files.{file_bytes, file_size}
+use Rattle.statement.specs.Writing.{write_rows, payout, write_said}
+use Rattle.statement.proofs.Answered.{answers_refused, answers_written, writable}
+use Rattle.statement.proofs.writing.write.Goals as goal
+
+pub put_file-requires : goal.put_file-requires
+put_file-requires c = let a = c.args in
+    writable a.currency a.places.now a.coefficients.now (length a.out-1.now) a.start (sym c.check_plain.ensures ∙ c.in-Passed.is)
+
+pub returns-in-Refused : goal.returns-in-Refused
+unfolding write_said
+returns-in-Refused c = let a = c.args in
+    answers_refused (write_rows a.currency a.places.now a.coefficients.now (length a.out-1.now) a.start) (a.start + file_size false (length a.places.now)) a.start
+    (file_bytes (payout a.currency a.places.now a.coefficients.now) (length a.places.now)) a.out-1.now c.in-Refused.refusal
+    (sym c.check_plain.ensures ∙ c.in-Refused.is)
+
+pub returns-in-Passed : goal.returns-in-Passed
+unfolding write_said
+returns-in-Passed c = let a = c.args in
+    let put = c.put_file in
+    answers_written (write_rows a.currency a.places.now a.coefficients.now (length a.out-1.now) a.start) (a.start + file_size false (length a.places.now)) a.start
+    (file_bytes (payout a.currency a.places.now a.coefficients.now) (length a.places.now)) a.out-1.now put.result put.new.1.1.1.1.1.0
+    (sym c.check_plain.ensures ∙ c.in-Passed.is) put.ensures.0 put.ensures.1

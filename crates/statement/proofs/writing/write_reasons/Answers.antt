@@ -1,0 +1,30 @@
+-- A refused check leaves the buffer as it stood; what passed has room for its file. Assumes nothing.
+use mathlib.Core.Path.{◌≡◌, refl, sym, ◌∙◌, ap, ap₂}
+use native.Mathlib.Omega.{arith}
+use borrow.Author.Rules.{rules}
+use mathlib.Core.Bool.{true}
+use Prim.Native.Nat.{ℕ, ◌+◌}
+use lib.ListN.{length}
+use Rattle.statement.specs.Files.{file_of, file_size}
+use Rattle.statement.specs.Writing.{reasons_rows, payout_with, reasons_said}
+use Rattle.statement.proofs.Answered.{answers_refused, answers_written, writable_reasons}
+use Rattle.statement.proofs.writing.write_reasons.Goals as goal
+
+pub put_file-requires : goal.put_file-requires
+put_file-requires c = let a = c.args in
+    writable_reasons a.currency a.places.now a.reasons.now a.coefficients.now (length a.out-1.now) a.start (sym c.check_reasons.ensures ∙ c.in-Passed.is)
+
+pub returns-in-Refused : goal.returns-in-Refused
+unfolding reasons_said
+returns-in-Refused c = let a = c.args in
+    answers_refused (reasons_rows a.currency a.places.now a.reasons.now a.coefficients.now (length a.out-1.now) a.start) (a.start + file_size true (length a.places.now)) a.start
+    (file_of true (payout_with a.currency a.places.now a.reasons.now a.coefficients.now) (length a.places.now)) a.out-1.now c.in-Refused.refusal
+    (sym c.check_reasons.ensures ∙ c.in-Refused.is)
+
+pub returns-in-Passed : goal.returns-in-Passed
+unfolding reasons_said
+returns-in-Passed c = let a = c.args in
+    let put = c.put_file in
+    answers_written (reasons_rows a.currency a.places.now a.reasons.now a.coefficients.now (length a.out-1.now) a.start) (a.start + file_size true (length a.places.now)) a.start
+    (file_of true (payout_with a.currency a.places.now a.reasons.now a.coefficients.now) (length a.places.now)) a.out-1.now put.result put.new.1.1.1.1.1.0
+    (sym c.check_reasons.ensures ∙ c.in-Passed.is) put.ensures.0 put.ensures.1

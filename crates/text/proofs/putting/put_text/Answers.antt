@@ -1,0 +1,22 @@
+-- Without room nothing is put, and else the text stands in front of what is lent from the place on. Assumes nothing.
+use mathlib.Core.Path.{ap}
+use Prim.Native.Nat.{ℕ, ◌+◌}
+use native.Mathlib.Omega.{arith}
+use Rattle.text.proofs.AtPlace.{no_scale, no_place, placed}
+use borrow.Author.Rules.{rules}
+use Rattle.text.proofs.putting.put_text.Goals as goal
+
+pub returns-then-scale-gt-SCALE : goal.returns-then-scale-gt-SCALE
+returns-then-scale-gt-SCALE c = let a = c.args in no_scale a.out-1.now a.at a.negative a.m a.scale c.if-scale-gt-SCALE.true
+
+pub returns-then-out-at : goal.returns-then-out-at
+returns-then-out-at c = let a = c.args in no_place a.out-1.now a.at a.negative a.m a.scale (omega arith) (omega arith)
+
+pub returns-then-out-at-2 : goal.returns-then-out-at-2
+returns-then-out-at-2 c = let a = c.args in no_place a.out-1.now a.at a.negative a.m a.scale (omega arith) (omega (arith, c.length_of-length.ensures))
+
+pub returns : goal.returns
+returns c = let l = c in
+    let a = l.args in
+    placed a.out-1.now a.at a.negative a.m a.scale (omega arith) (omega (arith, l.length_of-length.ensures)) _ c.put.ensures _
+    (ap (λ (k : ℕ). a.at + k) l.length_of-length.ensures)

@@ -1,0 +1,19 @@
+-- With room the text stands in front, without it nothing changes. Assumes nothing.
+use mathlib.Core.Path.{refl, ap}
+use Prim.Native.Nat.{ℕ}
+use native.Mathlib.Omega.{arith}
+use Rattle.refusal.specs.declared.Checked.TheVariants.{Passed}
+use Rattle.text.specs.Written.{spelled}
+use Rattle.text.proofs.Placed.{written, not_written}
+use borrow.Author.Rules.{rules}
+use Rattle.text.proofs.writing.write_text.Goals as goal
+
+pub returns-then-out-length : goal.returns-then-out-length
+returns-then-out-length c = let a = c.args in
+    not_written (spelled a.negative a.m a.scale) a.out-1.now (omega (arith, c.length_of-length.ensures, c.if-out-length.true)) _ refl
+
+pub returns : goal.returns
+returns c = let l = c in
+    let a = l.args in
+    written (spelled a.negative a.m a.scale) a.out-1.now (omega (arith, l.length_of-length.ensures, c.if-out-length.false)) _ c.put.new.0
+    (ap (λ (n : ℕ). record { outcome = Passed; length = n }) l.length_of-length.ensures) c.put.ensures
