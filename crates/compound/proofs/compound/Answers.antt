@@ -29,7 +29,7 @@ returns-in-Refused c =
     let checked : c.check.result ≡ check_of (taken c.args.principal c.args.rate c.args.periods c.args.out.now) = let a = c.args in c.check.ensures ∙ ap₂ (λ (s : Bool) (m : ℕ). check_of (taken_rows a.principal.scale m a.principal.currency s a.rate a.periods (length a.out-1.now))) asked.0 asked.1 in
     let k = c in
     let a = k.args in
-    answers_refused a.principal a.rate a.periods a.out-1.now c.in-Refused.refusal (sym checked ∙ c.in-Refused.is)
+    let all = answers_refused a.principal a.rate a.periods a.out-1.now c.in-Refused.refusal (sym checked ∙ c.in-Refused.is) in record { said = all.0; places = all.1 }
 
 pub returns-in-Passed : goal.returns-in-Passed
 returns-in-Passed c =
@@ -38,6 +38,6 @@ returns-in-Passed c =
     let k = c in
     let a = k.args in
     let w = c.write in
-    answers_written a.principal a.rate a.periods a.out-1.now w.result w.new.1.1.1.0
+    let all = answers_written a.principal a.rate a.periods a.out-1.now w.result w.new.1.1.1.0
     (sym checked ∙ c.in-Passed.is)
-    (subst (λ (m : ℕ). Writes m a.rate (row_count a.periods) a.out-1.now w.result w.new.1.1.1.0) asked.1 w.ensures)
+    (subst (λ (m : ℕ). Writes m a.rate (row_count a.periods) a.out-1.now w.result w.new.1.1.1.0) asked.1 w.ensures) in record { said = all.0; places = all.1 }

@@ -36,18 +36,25 @@ give_all-requires c =
     let fit : (c.args.count ≤ most_vouchers) × Allowed c.args.weights.now (length c.args.out.now) = let a = c.args in vouchers_fit a.count a.weights.now (length a.out-1.now) (sym c.check.ensures ∙ c.in-Passed.is) in
     let a = c.args in
     let both = fit in
-    let long = length-take-le (length a.weights.now) a.out-1.now both.1.fits in
-    (both.0, (just_enough a.weights.now (length a.out-1.now) _ both.1 long, long))
+    let long = length-take-le (length a.weights.now) a.out-1.now both.1.fits in record {
+      count_le_most_vouchers = both.0;
+      allowed = just_enough a.weights.now (length a.out-1.now) _ both.1 long;
+      held_len = long;
+    }
 
 pub returns-in-Refused : goal.returns-in-Refused
 unfolding vouchers_said
 returns-in-Refused c = let a = c.args in
-    lent_refused (voucher_rows a.count a.weights.now (length a.out-1.now)) (vouchers_of a.count a.weights.now) a.out-1.now c.in-Refused.refusal
-    (sym c.check.ensures ∙ c.in-Refused.is)
+    let all = lent_refused (voucher_rows a.count a.weights.now (length a.out-1.now)) (vouchers_of a.count a.weights.now) a.out-1.now c.in-Refused.refusal
+    (sym c.check.ensures ∙ c.in-Refused.is) in record { said = all.0; places = all.1 }
 
 pub returns-in-Passed : goal.returns-in-Passed
 unfolding vouchers_said
-returns-in-Passed c = let a = c.args in
-    lent_passed (voucher_rows a.count a.weights.now (length a.out-1.now)) (vouchers_of a.count a.weights.now) a.out-1.now _
-    (sym c.check.ensures ∙ c.in-Passed.is)
-    (put a.count a.weights.now c.give_all.new.1.1.0 a.out-1.now c.give_all.ensures)
+returns-in-Passed c = let a = c.args in record {
+  said = (lent_passed (voucher_rows a.count a.weights.now (length a.out-1.now)) (vouchers_of a.count a.weights.now) a.out-1.now _
+      (sym c.check.ensures ∙ c.in-Passed.is)
+      (put a.count a.weights.now c.give_all.new.1.1.0 a.out-1.now c.give_all.ensures)).0;
+  places = (lent_passed (voucher_rows a.count a.weights.now (length a.out-1.now)) (vouchers_of a.count a.weights.now) a.out-1.now _
+      (sym c.check.ensures ∙ c.in-Passed.is)
+      (put a.count a.weights.now c.give_all.new.1.1.0 a.out-1.now c.give_all.ensures)).1;
+}

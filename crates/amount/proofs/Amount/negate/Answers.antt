@@ -53,5 +53,5 @@ returns-in-Passed c =
     let s = e in
     let a = s.args.self in
     ap (λ (z : ℤ). gives (made a z))
-    (read_back c.opposite.result c.opposite.type-inv ∙ rw (to_z-of_z w64 a.coefficient own) at c.opposite.ensures)
+    (read_back c.opposite.result c.opposite.type_inv ∙ rw (to_z-of_z w64 a.coefficient own) at c.opposite.ensures)
     ∙ sym (passed (gives (made a (neg_ℤ a.coefficient))) (rowsOfOne a) (sym told ∙ e.in-Passed.is))

@@ -56,7 +56,7 @@ returns-in-Passed c =
     let a = s.args.self in
     let b = s.args.other in
     let sum =
-    read_back c.total.result c.total.type-inv
+    read_back c.total.result c.total.type_inv
     ∙ rw (to_z-of_z w64 a.coefficient own, to_z-of_z w64 b.coefficient other) at c.total.ensures in
     let clear = sym told ∙ g.in-Passed.is in
     let limits = pair a.scale b.scale (magnitude_of a.coefficient) (magnitude_of b.coefficient) a.currency-1 b.currency-1 clear in

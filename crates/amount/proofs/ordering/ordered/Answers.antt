@@ -14,8 +14,8 @@ returns c = let r = c in
     let g = r.greater-scale in
     c.compare.ensures
     ∙ ap₂ compared
-    (read_raised s.args.x r.raised.result s.args.s g.result scale s.ranges.x r.raised.type-inv g.ensures r.raised.ensures)
-    (read_raised s.args.y c.raised-2.result s.args.t g.result scale s.ranges.y c.raised-2.type-inv g.ensures
+    (read_raised s.args.x r.raised.result s.args.s g.result scale s.ranges.x r.raised.type_inv g.ensures r.raised.ensures)
+    (read_raised s.args.y c.raised-2.result s.args.t g.result scale s.ranges.y c.raised-2.type_inv g.ensures
     c.raised-2.ensures)
     ∙ same_order (s.args.x *ℤ pos (10 ^ (scale - s.args.s))) (s.args.y *ℤ pos (10 ^ (scale - s.args.t)))
     (one_near s.args.x s.args.y s.args.s s.args.t s.requires.0 s.requires.2)

@@ -65,7 +65,7 @@ returns-in-Passed c =
     let t = s.args.scale in
     let m = c.moved in
     c.within.ensures
-    ∙ ap (asked a t) (read_back m.result m.type-inv ∙ rw (to_z-of_z w64 a.coefficient own) at m.ensures)
+    ∙ ap (asked a t) (read_back m.result m.type_inv ∙ rw (to_z-of_z w64 a.coefficient own) at m.ensures)
     ∙ stands_limited (made a t) (cond (leb a.scale t) (nearer (raised_to t a)) (rounded s.args.rule a.coefficient (10 ^ (a.scale - t))))
     (rescaled s.args.rule t a)
     (either_stands (leb a.scale t) (raised_to t a) (rounded s.args.rule a.coefficient (10 ^ (a.scale - t))))

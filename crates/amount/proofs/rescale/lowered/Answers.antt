@@ -26,6 +26,6 @@ returns c = let p = c in
     ∙ ap (λ (b : Bool). rounded_magnitude s.args.rule b p.magnitude.result p.power_of_ten.result) sign
     ∙ ap₂ (λ (m n : ℕ). rounded_magnitude s.args.rule (negative z) m n) (p.magnitude.ensures ∙ ap magnitude_of held)
     (p.power_of_ten.ensures ∙ power_of_ten_lem s.args.places (omega arith)) in
-    read_back c.signed.result c.signed.type-inv ∙ c.signed.ensures
+    read_back c.signed.result c.signed.type_inv ∙ c.signed.ensures
     ∙ held_rounded z p.is_negative-negative.result c.round.result s.args.rule d sign rounds
     (omega (arith, rounds, at_most s.args.rule (negative z) (magnitude_of z) d, s.requires.0))

@@ -10,11 +10,11 @@ use Rattle.amount.proofs.rescale.moved.Goals as goal
 pub returns-then-from-to : goal.returns-then-from-to
 returns-then-from-to c = let a = c.args in
     rw (le-leb a.from a.to c.if-from-to.true)
-    (read_back c.raised.result c.raised.type-inv
+    (read_back c.raised.result c.raised.type_inv
     ∙ rw (to_z-of_z w64 a.coefficient c.ranges.coefficient) at c.raised.ensures)
 
 pub returns-else-from-to : goal.returns-else-from-to
 returns-else-from-to c = let a = c.args in
     rw (lt-leb a.from a.to c.if-from-to.false)
-    (read_back c.lowered.result c.lowered.type-inv
+    (read_back c.lowered.result c.lowered.type_inv
     ∙ rw (to_z-of_z w64 a.coefficient c.ranges.coefficient) at c.lowered.ensures)

@@ -15,6 +15,6 @@ returns c = let s = c in
     let z = s.args.x in
     let held = to_z-of_z w64 z s.ranges.x in
     let m = c.magnitude.ensures ∙ ap magnitude_of held in
-    read_back c.signed.result c.signed.type-inv ∙ c.signed.ensures
+    read_back c.signed.result c.signed.type_inv ∙ c.signed.ensures
     ∙ held_opposite z (not c.is_negative.result) c.magnitude.result
     (ap not (c.is_negative.ensures ∙ ap negative held)) m (omega (arith, m, s.requires))

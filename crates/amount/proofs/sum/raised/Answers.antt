@@ -17,7 +17,7 @@ returns c = let p = c in
     let z = s.args.coefficient in
     let f = 10 ^ (s.args.to - s.args.from) in
     let held = to_z-of_z w64 z s.ranges.coefficient in
-    read_back c.signed.result c.signed.type-inv ∙ c.signed.ensures
+    read_back c.signed.result c.signed.type_inv ∙ c.signed.ensures
     ∙ held_raised z f p.is_negative.result p.raised_magnitude.result
     (p.is_negative.ensures ∙ ap negative held)
     (p.raised_magnitude.ensures ∙ ap (λ (m : ℕ). nearest (m * f)) (p.magnitude.ensures ∙ ap magnitude_of held))

@@ -15,7 +15,7 @@ use Rattle.book.proofs.CardAnswered.{card_ready, card_refused, card_passed}
 use Rattle.book.proofs.Book.card.Goals as goal
 
 -- the check's answer, by the one test of the new weights
-module _ (c : tie.After-check) where
+module _ (c : goal.After-check) where
   abbrev the-book : Book
   the-book = c.before.before.before.before.args.self
 

@@ -38,7 +38,7 @@ loop-i-preserved c =
     let sum = m.magnitude.result + get_or a.t2 i 0 in
     let small : sum < 2 ^ 63 = omega (arith, held, l.requires i) in
     let stored : to_z w64 (of_z w64 c.signed.result) ≡ added a.t1 a.t2 i =
-    read_back c.signed.result c.signed.type-inv ∙ c.signed.ensures ∙ held_within false sum small ∙ ap (λ (x : ℕ). pos (x + get_or a.t2 i 0)) held in
+    read_back c.signed.result c.signed.type_inv ∙ c.signed.ensures ∙ held_within false sum small ∙ ap (λ (x : ℕ). pos (x + get_or a.t2 i 0)) held in
     let at : i ≡ 0 + i = omega arith in
     (omega arith, fill_more 0 (added a.t1 a.t2) a.t1 l.loop-i.grown i i _ l.loop-i.invariant.1 at stored)
 

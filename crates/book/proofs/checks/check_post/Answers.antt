@@ -23,7 +23,7 @@ abbrev last : Book → Amount → List Row
 last b a = row Limit (over_l (settled_sum b + (net_of b + units_of a))) ∷ []
 
 -- the call's parts, where rows 2 to 10 passed: the sum that is told is that of the settled totals
-module _ (c : tie.After-units-of) where
+module _ (c : goal.After-units_of) where
   abbrev the-book : Book
   the-book = c.before.before.before.before.before.before.args.book
 

@@ -20,7 +20,7 @@ unfolding next_book
 returns c = let s = c in
     let b = s.args.book in
     let net : to_z w64 (of_z w64 c.signed.result) ≡ pos s.args.net =
-    read_back c.signed.result c.signed.type-inv ∙ c.signed.ensures ∙ held_within false s.args.net (omega (arith, s.requires.2)) in
+    read_back c.signed.result c.signed.type_inv ∙ c.signed.ensures ∙ held_within false s.args.net (omega (arith, s.requires.2)) in
     let next = c.at_net-next.ensures ∙ ap (book_at b) net in
     record {
       outcome = ap (λ (x : Book). gives (magnitude_of x.net)) next;

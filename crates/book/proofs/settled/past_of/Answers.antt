@@ -20,7 +20,7 @@ use Rattle.book.proofs.Told.{told_over, told_sums}
 use Rattle.book.proofs.settled.past_of.Goals as goal
 
 -- the sums by what the settled totals are, and their limits
-module _ (c : tie.After-sums-from2) where
+module _ (c : goal.After-sums_from-behind) where
   abbrev zs : List ℤ
   zs = c.before.before.before.before.args.settled
 

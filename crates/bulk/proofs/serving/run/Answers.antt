@@ -15,8 +15,7 @@ serve-last-requires c =
     let told = c in
     let k = told in
     let a = k.args in
-    let fit = run_fit a.book (length a.refunds.now) (length a.coefficients.now) (length a.payouts-1.now) (length a.numbers-1.now) (sym checked ∙ told.in-Passed.is) in
-    (fit.0, fit.1)
+    let fit = run_fit a.book (length a.refunds.now) (length a.coefficients.now) (length a.payouts-1.now) (length a.numbers-1.now) (sym checked ∙ told.in-Passed.is) in record { sound = fit.0; fit = fit.1 }
 
 pub returns-in-Refused : goal.returns-in-Refused
 returns-in-Refused c =

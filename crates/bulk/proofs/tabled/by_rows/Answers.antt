@@ -25,7 +25,7 @@ totals_by-held-requires c =
     let net : c.magnitude-net.result ≡ net_of c.args.book = let z = c.args.book.net in let fits : SFits w64 z = search rules in c.magnitude-net.ensures ∙ ap magnitude_of (to_z-of_z w64 z fits) in
     let sum : c.settled_sum-settled.result ≡ settled_sum c.args.book = let s = c in sound_settled s.args.book s.requires.0 c.settled_sum-settled.result c.settled_sum-settled.ensures in
     let limit : c.settled_sum-settled.result + c.magnitude-net.result ≤ largest = let s = c in rw (net, sum) (sound_net s.args.book s.requires.0).1 in
-    let s = c in (s.requires.1.0, (s.requires.1.1.0, omega (arith, limit)))
+    let s = c in record { weighed = s.requires.1.0; cycled = s.requires.1.1.0; n_le_largest = omega (arith, limit) }
 
 pub loop-j-init : goal.loop-j-init
 loop-j-init c =
@@ -43,8 +43,12 @@ step-net-requires c =
     let at = c in
     let long = lengths in
     let s = at in
-    let inside = c.loop-j-test.true in
-    (s.requires.1.0, (s.requires.1.1.0, ((at.loop-j.invariant.1, at.loop-j.invariant.2), (omega arith, omega arith))))
+    let inside = c.loop-j-test.true in record {
+      weighed = s.requires.1.0;
+      cycled = s.requires.1.1.0;
+      net_bound = (at.loop-j.invariant.1, at.loop-j.invariant.2);
+      partners_in_bounds = (omega arith, omega arith);
+    }
 
 pub overflow_add-j : goal.overflow_add-j
 overflow_add-j c =

@@ -17,8 +17,12 @@ use Rattle.bulk.proofs.tabled.by_table.Goals as goal
 pub by_rows-net-requires : goal.by_rows-net-requires
 by_rows-net-requires c = let f = c in
     let s = f in
-    let a = s.args in
-    (s.requires.0, (s.requires.1.0, (subst (Cycled a.book.weights a.sum) (sym f.fill_cycle.ensures) (has_rows a.book.weights _ a.sum s.requires.1.0 s.requires.1.0.most), s.requires.1.1)))
+    let a = s.args in record {
+      sound = s.requires.0;
+      weighed = s.requires.1.0;
+      cycled = subst (Cycled a.book.weights a.sum) (sym f.fill_cycle.ensures) (has_rows a.book.weights _ a.sum s.requires.1.0 s.requires.1.0.most);
+      fit = s.requires.1.1;
+    }
 
 pub returns : goal.returns
 unfolding next_book
@@ -26,7 +30,7 @@ returns c = let r = c.by_rows-net in
     let signed = c.signed in
     let b = c.args.book in
     let net : to_z w64 (of_z w64 signed.result) ≡ pos r.result =
-    read_back signed.result signed.type-inv ∙ signed.ensures ∙ held_within false r.result (omega (arith, r.ensures.0)) in
+    read_back signed.result signed.type_inv ∙ signed.ensures ∙ held_within false r.result (omega (arith, r.ensures.0)) in
     record {
       book = c.at_net.ensures ∙ ap (book_at b) net ∙ r.ensures.1.book;
       paid = r.ensures.1.paid;

@@ -28,13 +28,15 @@ overflow_sub-next c =
     refunds
 
 pub totals_by-totals-requires : goal.totals_by-totals-requires
-totals_by-totals-requires c = let s = c in (s.requires.0, (s.requires.1.0, omega (arith, s.requires.1.1.0.0)))
+totals_by-totals-requires c = let s = c in record { weighed = s.requires.0; cycled = s.requires.1.0; n_le_largest = omega (arith, s.requires.1.1.0.0) }
 
 pub pay-requires : goal.pay-requires
 pay-requires c = let t = c in
     let s = t in
-    let a = s.args in
-    (totals_rise a.weights s.requires.0 _ a.net _ _ (omega arith) t.totals_by-totals.ensures s.requires.1.1.0.1, omega arith)
+    let a = s.args in record {
+      by_index = totals_rise a.weights s.requires.0 _ a.net _ _ (omega arith) t.totals_by-totals.ensures s.requires.1.1.0.1;
+      partners_in_bounds = omega arith;
+    }
 
 pub returns-then-refund : goal.returns-then-refund
 returns-then-refund c =
@@ -57,13 +59,15 @@ overflow_add-next c =
 pub totals_by-totals-requires-2 : goal.totals_by-totals-requires-2
 totals_by-totals-requires-2 c =
     let posts : c.args.settled + (c.args.net + c.magnitude-m.result) ≤ largest = let k = c in let a = k.args in (left_posts a.settled a.refund k.is_negative.result k.magnitude-m.result a.net (sym k.check_call-number.ensures ∙ c.if-number-ne0.false) c.if-refund.false).1 in
-    let s = c in (s.requires.0, (s.requires.1.0, omega (arith, posts)))
+    let s = c in record { weighed = s.requires.0; cycled = s.requires.1.0; n_le_largest = omega (arith, posts) }
 
 pub pay-requires-2 : goal.pay-requires-2
 pay-requires-2 c = let t = c in
     let s = t in
-    let a = s.args in
-    (totals_rise a.weights s.requires.0 a.net _ _ _ (omega arith) s.requires.1.1.0.1 t.totals_by-totals-2.ensures, omega arith)
+    let a = s.args in record {
+      by_index = totals_rise a.weights s.requires.0 a.net _ _ _ (omega arith) s.requires.1.1.0.1 t.totals_by-totals-2.ensures;
+      partners_in_bounds = omega arith;
+    }
 
 pub returns : goal.returns
 returns c =

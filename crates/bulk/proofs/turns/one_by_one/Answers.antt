@@ -16,7 +16,7 @@ pub turn-last-requires : goal.turn-last-requires
 turn-last-requires c =
     let lengths : (length c.loop-j.payouts ≡ length c.args.payouts.now) × (length c.loop-j.numbers ≡ length c.args.numbers.now) = let a = c.args in served_lengths a.book a.refunds.now a.coefficients.now a.payouts-1.now a.numbers-1.now c.loop-j.invariant.1 in
     let at = c in
-    let long = lengths in (omega arith, omega arith)
+    let long = lengths in record { partners_in_bounds = omega arith; j_in_bounds = omega arith }
 
 pub loop-j-preserved : goal.loop-j-preserved
 loop-j-preserved c = let t = c.turn-last in

@@ -24,7 +24,7 @@ loop-i-preserved c = let start = c in
     let a = start.args in
     let at = c.loop-i in
     let balance = get_or a.rows.now at.i 0 in
-    let is = read_back c.signed.result c.signed.type-inv ∙ c.signed.ensures
+    let is = read_back c.signed.result c.signed.type_inv ∙ c.signed.ensures
     ∙ held_within false balance (omega (arith, start.requires.0 at.i (omega arith))) in (
       omega arith,
       fill_more 0 (λ n. pos (get_or a.rows.now n 0)) a.out.now at.out at.i at.i _ at.invariant.1 (omega arith) is,

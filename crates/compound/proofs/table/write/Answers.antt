@@ -24,7 +24,10 @@ pub slice_bounds-write_by-end : goal.slice_bounds-write_by-end
 slice_bounds-write_by-end c = sym (length-take-le _ _ (omega arith))
 
 pub write_by-requires : goal.write_by-requires
-write_by-requires c = let start = c in (start.requires.0, has_room (row_count start.args.periods) _ _ (omega arith) start.requires.1.1)
+write_by-requires c = let start = c in record {
+  grows = start.requires.0;
+  rows_in_bounds = has_room (row_count start.args.periods) _ _ (omega arith) start.requires.1.1;
+}
 
 pub returns : goal.returns
 returns c = let w = c.write_by in

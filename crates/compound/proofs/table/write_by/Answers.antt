@@ -8,8 +8,8 @@ pub copy-requires : goal.copy-requires
 copy-requires c = let f = c.fill in
     let start = c in
     let a = start.args in
-    ready a.principal a.rate a.rows-1.now f.new.1.1.0 f.result f.ensures c.in-Passed.is
-    (length a.out-1.now) start.requires.1
+    let all = ready a.principal a.rate a.rows-1.now f.new.1.1.0 f.result f.ensures c.in-Passed.is
+    (length a.out-1.now) start.requires.1 in record { within = all.0; rows_in_bounds = all.1 }
 
 pub returns-in-Refused : goal.returns-in-Refused
 returns-in-Refused c = let f = c.fill in

@@ -20,7 +20,7 @@ pub overflow_add-n : goal.overflow_add-n
 overflow_add-n c = let s = c in omega (arith, s.requires.0.most)
 
 pub row-requires : goal.row-requires
-row-requires c = let s = c in (s.requires.0, (c.loop-n-test.true, c.loop-n.invariant.walk.units))
+row-requires c = let s = c in record { weighed = s.requires.0; n_lt_sum = (c.loop-n-test.true, c.loop-n.invariant.walk.units) }
 
 pub overflow_cast-table : goal.overflow_cast-table
 overflow_cast-table c = let s = c in omega (arith, s.requires.0.most)

@@ -7,7 +7,7 @@ use Rattle.division.specs.Digits.{base}
 use Rattle.division.proofs.Digit.{low, top, taken, left, top_small, taken_small, left_small, digit as the-digit}
 use Rattle.division.proofs.digits.digit.Goals as goal
 
-module _ (c : tie.Start) where
+module _ (c : goal.Start) where
   low_fits : c.args.r % base * c.args.g ≤ base * base
   low_fits = mul-le-mul {n₂ = base} {m₂ = base} (omega (arith, mod-lt c.args.r {m = base} (omega arith))) (omega (arith, c.requires.digit))
 

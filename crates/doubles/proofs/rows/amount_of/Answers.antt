@@ -13,7 +13,7 @@ pub returns : goal.returns
 returns c = let s = c in
     let a = s.args in
     ap (amount_at a.currency a.scale)
-    (read_back c.signed.result c.signed.type-inv
+    (read_back c.signed.result c.signed.type_inv
     ∙ c.signed.ensures
     ∙ held_within c.sign.result a.m (omega (arith, s.requires, few))
     ∙ ap (λ (b : Bool). signed_of b a.m) c.sign.ensures)

@@ -21,4 +21,4 @@ returns c = let s = c in
     let a = s.args in
     c.within.ensures
     ∙ ap₂ (settledAt a.to) (ap (λ (l : Line). l.digits) c.Line-of.ensures)
-    (read_back c.signed.result c.signed.type-inv ∙ c.signed.ensures ∙ held_within a.negative a.m (omega (arith, s.requires)))
+    (read_back c.signed.result c.signed.type_inv ∙ c.signed.ensures ∙ held_within a.negative a.m (omega (arith, s.requires)))

@@ -5,13 +5,25 @@ use borrow.Author.Rules.{rules}
 use Rattle.hexadecimal.proofs.putting.put_hex.Goals as goal
 
 pub returns-then-bytes-eq0 : goal.returns-then-bytes-eq0
-returns-then-bytes-eq0 c = none_shown _ _ _ _ _ c.if-bytes-eq0.true c.put_bytes.ensures
+returns-then-bytes-eq0 c = record {
+  out_after = (none_shown _ _ _ _ _ c.if-bytes-eq0.true c.put_bytes.ensures).0;
+  value = (none_shown _ _ _ _ _ c.if-bytes-eq0.true c.put_bytes.ensures).1;
+}
 
 pub returns-then-out-at : goal.returns-then-out-at
-returns-then-out-at c = no_place _ _ _ c.if-bytes-eq0.false (omega arith)
+returns-then-out-at c = record {
+  out_after = (no_place _ _ _ c.if-bytes-eq0.false (omega arith)).0;
+  value = (no_place _ _ _ c.if-bytes-eq0.false (omega arith)).1;
+}
 
 pub returns-then-out-at-2 : goal.returns-then-out-at-2
-returns-then-out-at-2 c = no_place _ _ _ c.if-bytes-eq0.false (omega arith)
+returns-then-out-at-2 c = record {
+  out_after = (no_place _ _ _ c.if-bytes-eq0.false (omega arith)).0;
+  value = (no_place _ _ _ c.if-bytes-eq0.false (omega arith)).1;
+}
 
 pub returns : goal.returns
-returns c = all_shown _ _ _ c.if-bytes-eq0.false _ (omega arith) c.fill_digits.ensures
+returns c = record {
+  out_after = (all_shown _ _ _ c.if-bytes-eq0.false _ (omega arith) c.fill_digits.ensures).0;
+  value = (all_shown _ _ _ c.if-bytes-eq0.false _ (omega arith) c.fill_digits.ensures).1;
+}

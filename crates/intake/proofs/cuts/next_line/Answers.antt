@@ -10,5 +10,4 @@ cut-requires c = rw c.standing_of.ensures (standing_inside _ _)
 
 pub returns : goal.returns
 unfolding cut_of
-returns c = let e : c.cut.result ≡ cut_of c.args.text.now c.args.at = c.cut.ensures ∙ rw c.standing_of.ensures in
-    (e, rw e (cut_inside c.args.text.now c.args.at))
+returns c = let e : c.cut.result ≡ cut_of c.args.text.now c.args.at = c.cut.ensures ∙ rw c.standing_of.ensures in record { said = e; within = rw e (cut_inside c.args.text.now c.args.at) }

@@ -21,7 +21,7 @@ shape_of-text c = c.loop-i.invariant.1
 pub returns : goal.returns
 returns c = let args = c.args in
     let counted = c.count_of-count.ensures in
-    let all : c.loop-i.i ≡ kept_count args.text.now args.from args.to = omega arith in (
-      counted,
-      c.loop-i.invariant.2 ∙ ap (moved args.text.now args.from) all ∙ all_moved _ _ _,
-    )
+    let all : c.loop-i.i ≡ kept_count args.text.now args.from args.to = omega arith in record {
+      count = counted;
+      kept = c.loop-i.invariant.2 ∙ ap (moved args.text.now args.from) all ∙ all_moved _ _ _;
+    }

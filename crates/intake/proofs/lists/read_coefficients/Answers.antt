@@ -16,7 +16,10 @@ pub shape_of-coefficients-then-coefficients-count : goal.shape_of-coefficients-t
 shape_of-coefficients-then-coefficients-count c = c.loop-i.invariant.sized
 
 pub returns-then-coefficients-count : goal.returns-then-coefficients-count
-returns-then-coefficients-count c = no_room _ _ _ _ _ _ _ c.loop-i.invariant c.if-coefficients-count.true
+returns-then-coefficients-count c = record {
+  count = (no_room _ _ _ _ _ _ _ c.loop-i.invariant c.if-coefficients-count.true).0;
+  coefficients = (no_room _ _ _ _ _ _ _ c.loop-i.invariant c.if-coefficients-count.true).1;
+}
 
 pub loop-i-preserved : goal.loop-i-preserved
 loop-i-preserved c = let held : SFits w64 c.i64_at.result = search rules in
@@ -27,4 +30,7 @@ pub shape_of-coefficients : goal.shape_of-coefficients
 shape_of-coefficients c = c.loop-i.invariant.sized
 
 pub returns : goal.returns
-returns c = no_more _ _ _ _ _ _ _ c.loop-i.invariant c.loop-i-test.false
+returns c = record {
+  count = (no_more _ _ _ _ _ _ _ c.loop-i.invariant c.loop-i-test.false).0;
+  coefficients = (no_more _ _ _ _ _ _ _ c.loop-i.invariant c.loop-i-test.false).1;
+}

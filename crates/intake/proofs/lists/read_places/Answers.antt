@@ -12,7 +12,10 @@ pub shape_of-places-then-places-count : goal.shape_of-places-then-places-count
 shape_of-places-then-places-count c = c.loop-i.invariant.sized
 
 pub returns-then-places-count : goal.returns-then-places-count
-returns-then-places-count c = no_room _ _ _ _ _ _ _ c.loop-i.invariant c.if-places-count.true
+returns-then-places-count c = record {
+  count = (no_room _ _ _ _ _ _ _ c.loop-i.invariant c.if-places-count.true).0;
+  places = (no_room _ _ _ _ _ _ _ c.loop-i.invariant c.if-places-count.true).1;
+}
 
 pub loop-i-preserved : goal.loop-i-preserved
 loop-i-preserved c = one_written _ _ _ _ _ _ _ c.loop-i.invariant _ c.loop-i-test.true c.if-places-count.false
@@ -22,4 +25,7 @@ pub shape_of-places : goal.shape_of-places
 shape_of-places c = c.loop-i.invariant.sized
 
 pub returns : goal.returns
-returns c = no_more _ _ _ _ _ _ _ c.loop-i.invariant c.loop-i-test.false
+returns c = record {
+  count = (no_more _ _ _ _ _ _ _ c.loop-i.invariant c.loop-i-test.false).0;
+  places = (no_more _ _ _ _ _ _ _ c.loop-i.invariant c.loop-i-test.false).1;
+}

@@ -12,7 +12,10 @@ pub shape_of-weights-then-weights-count : goal.shape_of-weights-then-weights-cou
 shape_of-weights-then-weights-count c = c.loop-i.invariant.sized
 
 pub returns-then-weights-count : goal.returns-then-weights-count
-returns-then-weights-count c = no_room _ _ _ _ _ _ _ c.loop-i.invariant c.if-weights-count.true
+returns-then-weights-count c = record {
+  count = (no_room _ _ _ _ _ _ _ c.loop-i.invariant c.if-weights-count.true).0;
+  weights = (no_room _ _ _ _ _ _ _ c.loop-i.invariant c.if-weights-count.true).1;
+}
 
 pub loop-i-preserved : goal.loop-i-preserved
 loop-i-preserved c = one_written _ _ _ _ _ _ _ c.loop-i.invariant _ c.loop-i-test.true c.if-weights-count.false
@@ -22,4 +25,7 @@ pub shape_of-weights : goal.shape_of-weights
 shape_of-weights c = c.loop-i.invariant.sized
 
 pub returns : goal.returns
-returns c = no_more _ _ _ _ _ _ _ c.loop-i.invariant c.loop-i-test.false
+returns c = record {
+  count = (no_more _ _ _ _ _ _ _ c.loop-i.invariant c.loop-i-test.false).0;
+  weights = (no_more _ _ _ _ _ _ _ c.loop-i.invariant c.loop-i-test.false).1;
+}

@@ -16,4 +16,4 @@ returns-then-place c = let a = c.args in
 
 pub returns : goal.returns
 returns c = rw
-    (c.u8_at-2.ensures, c.u8_at-3.ensures, read_back c.i64_at.result c.i64_at.type-inv, c.i64_at.ensures)
+    (c.u8_at-2.ensures, c.u8_at-3.ensures, read_back c.i64_at.result c.i64_at.type_inv, c.i64_at.ensures)

@@ -5,7 +5,13 @@ use Rattle.intake.proofs.Words.{next_word_lem}
 use Rattle.intake.proofs.numbers.next_word.Goals as goal
 
 pub returns-then-line-at : goal.returns-then-line-at
-returns-then-line-at c = next_word_lem _ _ _ _ (omega arith) c.word_from.ensures
+returns-then-line-at c = record {
+  said = (next_word_lem _ _ _ _ (omega arith) c.word_from.ensures).0;
+  within = (next_word_lem _ _ _ _ (omega arith) c.word_from.ensures).1;
+}
 
 pub returns : goal.returns
-returns c = next_word_lem _ _ _ _ (omega arith) c.word_from-2.ensures
+returns c = record {
+  said = (next_word_lem _ _ _ _ (omega arith) c.word_from-2.ensures).0;
+  within = (next_word_lem _ _ _ _ (omega arith) c.word_from-2.ensures).1;
+}

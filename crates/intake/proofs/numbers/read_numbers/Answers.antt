@@ -17,14 +17,22 @@ pub shape_of-values-then-end-word : goal.shape_of-values-then-end-word
 shape_of-values-then-end-word c = c.loop-at.invariant.values-sized
 
 pub returns-then-end-word : goal.returns-then-end-word
-returns-then-end-word c = let l = c in
-    empty_word _ _ _ _ _ _ _ _ l.loop-at.invariant _ c.word_from-word.ensures c.if-end-word.true
+returns-then-end-word c = let l = c in record {
+  given = (empty_word _ _ _ _ _ _ _ _ l.loop-at.invariant _ c.word_from-word.ensures c.if-end-word.true).0;
+  signs = (empty_word _ _ _ _ _ _ _ _ l.loop-at.invariant _ c.word_from-word.ensures c.if-end-word.true).1.0;
+  magnitudes = (empty_word _ _ _ _ _ _ _ _ l.loop-at.invariant _ c.word_from-word.ensures c.if-end-word.true).1.1;
+}
 
 pub returns-then-not-take_number : goal.returns-then-not-take_number
 returns-then-not-take_number c = let e = c in
-    let l = e in
-    other_word _ _ _ _ _ _ _ _ l.loop-at.invariant _ e.word_from-word.ensures (omega arith) _ _ _
-    c.take_number.ensures (not-true _ c.if-not-take_number.true)
+    let l = e in record {
+      given = (other_word _ _ _ _ _ _ _ _ l.loop-at.invariant _ e.word_from-word.ensures (omega arith) _ _ _
+          c.take_number.ensures (c.if-not-take_number.true)).0;
+      signs = (other_word _ _ _ _ _ _ _ _ l.loop-at.invariant _ e.word_from-word.ensures (omega arith) _ _ _
+          c.take_number.ensures (c.if-not-take_number.true)).1.0;
+      magnitudes = (other_word _ _ _ _ _ _ _ _ l.loop-at.invariant _ e.word_from-word.ensures (omega arith) _ _ _
+          c.take_number.ensures (c.if-not-take_number.true)).1.1;
+    }
 
 pub loop-at-smaller : goal.loop-at-smaller
 loop-at-smaller c = let e = c in
@@ -35,7 +43,7 @@ pub loop-at-preserved : goal.loop-at-preserved
 loop-at-preserved c = let e = c in
     let l = e in
     one_taken _ _ _ _ _ _ _ _ l.loop-at.invariant _ e.word_from-word.ensures (omega arith) _ _ _
-    c.take_number.ensures (omega arith) (not-false _ c.if-not-take_number.false)
+    c.take_number.ensures (omega arith) (c.if-not-take_number.false)
 
 pub shape_of-signs : goal.shape_of-signs
 shape_of-signs c = c.loop-at.invariant.signs-sized
@@ -44,4 +52,8 @@ pub shape_of-values : goal.shape_of-values
 shape_of-values c = c.loop-at.invariant.values-sized
 
 pub returns : goal.returns
-returns c = line_read _ _ _ _ _ _ _ _ c.loop-at.invariant c.loop-at-test.false
+returns c = record {
+  given = (line_read _ _ _ _ _ _ _ _ c.loop-at.invariant c.loop-at-test.false).0;
+  signs = (line_read _ _ _ _ _ _ _ _ c.loop-at.invariant c.loop-at-test.false).1.0;
+  magnitudes = (line_read _ _ _ _ _ _ _ _ c.loop-at.invariant c.loop-at-test.false).1.1;
+}

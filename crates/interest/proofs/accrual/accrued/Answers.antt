@@ -25,7 +25,7 @@ pub returns : goal.returns
 unfolding accrued_to
 returns c = let s = c in
     let a = s.args in
-    read_back c.signed.result c.signed.type-inv
+    read_back c.signed.result c.signed.type_inv
     ∙ c.signed.ensures
     ∙ ap (held_signed a.negative)
     (c.round_product-rounded.ensures

@@ -51,5 +51,5 @@ returns-in-Days c =
     c.within.ensures
     ∙ said_made a.rule a.principal a.rate a.basis a.start a.end s.magnitude-m.result asked.1
     s.is_negative-negative.result asked.0 (to_z w64 (of_z w64 n)) days.0.0
-    (read_back n c.accrued.type-inv ∙ c.accrued.ensures)
+    (read_back n c.accrued.type_inv ∙ c.accrued.ensures)
     (sym s.check.ensures ∙ told.in-Passed.is) (sym (ap means_days days.1) ∙ counted.day_count.ensures)

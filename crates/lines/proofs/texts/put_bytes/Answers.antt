@@ -11,10 +11,12 @@ use Rattle.lines.proofs.Fills.{no_room, behind, copied}
 use Rattle.lines.proofs.texts.put_bytes.Goals as goal
 
 pub returns-then-out-at : goal.returns-then-out-at
-returns-then-out-at c = let s = c in no_room s.args.out.now s.args.at s.args.bytes.now (omega arith)
+returns-then-out-at c = let s = c in
+    let all = no_room s.args.out.now s.args.at s.args.bytes.now (omega arith) in record { out_after = all.0; value = all.1 }
 
 pub returns-then-out-at-2 : goal.returns-then-out-at-2
-returns-then-out-at-2 c = let s = c in no_room s.args.out.now s.args.at s.args.bytes.now (omega arith)
+returns-then-out-at-2 c = let s = c in
+    let all = no_room s.args.out.now s.args.at s.args.bytes.now (omega arith) in record { out_after = all.0; value = all.1 }
 
 pub loop-i-init : goal.loop-i-init
 loop-i-init c = let s = c in (omega arith, refl, paste-zero s.args.out.now s.args.at s.args.bytes.now)
@@ -32,7 +34,7 @@ pub returns : goal.returns
 returns c = let l = c in
     let s = l in
     let room : s.args.at + length s.args.bytes.now ≤ length s.args.out.now = omega arith in
-    let all : l.loop-i.i ≡ length s.args.bytes.now = omega arith in (
-      l.loop-i.invariant.2 ∙ ap (paste s.args.out.now s.args.at s.args.bytes.now) all ∙ copied s.args.out.now s.args.at s.args.bytes.now room,
-      sym (behind s.args.out.now s.args.at s.args.bytes.now room),
-    )
+    let all : l.loop-i.i ≡ length s.args.bytes.now = omega arith in record {
+      out_after = l.loop-i.invariant.2 ∙ ap (paste s.args.out.now s.args.at s.args.bytes.now) all ∙ copied s.args.out.now s.args.at s.args.bytes.now room;
+      value = sym (behind s.args.out.now s.args.at s.args.bytes.now room);
+    }

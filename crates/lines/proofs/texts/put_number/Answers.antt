@@ -6,8 +6,10 @@ use Rattle.lines.proofs.texts.put_number.Goals as goal
 
 pub returns-then-below_zero : goal.returns-then-below_zero
 unfolding text_of
-returns-then-below_zero c = rw (sym c.below_zero.ensures ∙ c.if-below_zero.true) c.put_negative.ensures
+returns-then-below_zero c =
+    let all = rw (sym c.below_zero.ensures ∙ c.if-below_zero.true) c.put_negative.ensures in record { out_after = all.0; value = all.1 }
 
 pub returns-else-below_zero : goal.returns-else-below_zero
 unfolding text_of
-returns-else-below_zero c = rw (sym c.below_zero.ensures ∙ c.if-below_zero.false) c.put_unsigned.ensures
+returns-else-below_zero c =
+    let all = rw (sym c.below_zero.ensures ∙ c.if-below_zero.false) c.put_unsigned.ensures in record { out_after = all.0; value = all.1 }

@@ -9,13 +9,17 @@ use Rattle.lines.proofs.Fills.{no_room, behind}
 use Rattle.lines.proofs.texts.put_unsigned.Goals as goal
 
 pub returns-then-out-at : goal.returns-then-out-at
-returns-then-out-at c = let s = c in no_room s.args.out.now s.args.at (decimal 20 s.args.m) (omega arith)
+returns-then-out-at c = let s = c in
+    let all = no_room s.args.out.now s.args.at (decimal 20 s.args.m) (omega arith) in record { out_after = all.0; value = all.1 }
 
 pub returns-then-out-at-2 : goal.returns-then-out-at-2
-returns-then-out-at-2 c = let s = c in no_room s.args.out.now s.args.at (decimal 20 s.args.m) (omega (arith, c.places-count.ensures))
+returns-then-out-at-2 c = let s = c in
+    let all = no_room s.args.out.now s.args.at (decimal 20 s.args.m) (omega (arith, c.places-count.ensures)) in record { out_after = all.0; value = all.1 }
 
 pub returns : goal.returns
 returns c = let s = c in
     let count = c.places-count in
-    let room : s.args.at + length (decimal 20 s.args.m) ≤ length s.args.out.now = omega (arith, count.ensures) in
-    (c.fill.ensures, ap (λ (k : ℕ). s.args.at + k) count.ensures ∙ sym (behind s.args.out.now s.args.at (decimal 20 s.args.m) room))
+    let room : s.args.at + length (decimal 20 s.args.m) ≤ length s.args.out.now = omega (arith, count.ensures) in record {
+      out_after = c.fill.ensures;
+      value = ap (λ (k : ℕ). s.args.at + k) count.ensures ∙ sym (behind s.args.out.now s.args.at (decimal 20 s.args.m) room);
+    }

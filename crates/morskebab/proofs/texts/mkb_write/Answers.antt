@@ -11,5 +11,4 @@ pub returns : goal.returns
 returns c = let w = c in
     let a = w.args in
     let out = a.out-1.now in
-    let writes = subst (λ (x : Amount). Writes (text_of x) (write_said x (length out)) out w.write-written.result w.write-written.new.1.0) w.given_amount.ensures w.write-written.ensures in
-    (c.flat_written.ensures ∙ ap written_of writes.answer, writes.left)
+    let writes = subst (λ (x : Amount). Writes (text_of x) (write_said x (length out)) out w.write-written.result w.write-written.new.1.0) w.given_amount.ensures w.write-written.ensures in record { said = c.flat_written.ensures ∙ ap written_of writes.answer; places = writes.left }

@@ -34,7 +34,7 @@ returns-in-Passed c =
     let q = signed_of a.negative (rounded_magnitude a.rule a.negative (a.a * a.b) a.d) in
     let clear = sym told ∙ c.in-Passed.is in
     ap gives
-    (read_back c.signed.result c.signed.type-inv ∙ c.signed.ensures ∙ ap (held_signed a.negative) k.quotient-found.ensures
+    (read_back c.signed.result c.signed.type_inv ∙ c.signed.ensures ∙ ap (held_signed a.negative) k.quotient-found.ensures
     ∙ held_quotient a.rule a.negative a.a a.b a.d clear)
     ∙ sym (passed (gives q) (plain_rows a.a a.b a.d (found_quotient a.rule a.negative a.a a.b a.d)) clear)
     ∙ said

@@ -5,5 +5,8 @@ use borrow.Author.Rules.{rules}
 use Rattle.running.proofs.window.by_many.Goals as goal
 
 pub by_slots-requires : goal.by_slots-requires
-by_slots-requires c = let s = c in
-    (s.requires.0, (s.requires.1, record { fits = omega (arith, s.requires.0.part); empty = refl }))
+by_slots-requires c = let s = c in record {
+  shares = s.requires.0;
+  starts = s.requires.1;
+  empty = record { fits = omega (arith, s.requires.0.part); empty = refl };
+}

@@ -84,8 +84,12 @@ walk-requires c =
     let a = s.args in
     let l = c.loop-i in
     let e : l.i ≡ 16 = omega (arith, l.invariant.upto) in
-    let f = subst (λ (k : ℕ). Filled a.t1 a.n a.u a.slots-1.now k l.taken l.slots-1) e l.invariant in
-    (s.requires.0, (s.requires.1.0, (filled_count a.t1 a.n a.u a.slots-1.now long s.requires.1.1 l.taken l.slots-1 f, filled_listed a.t1 a.n a.u a.slots-1.now long s.requires.1.1 l.taken l.slots-1 f)))
+    let f = subst (λ (k : ℕ). Filled a.t1 a.n a.u a.slots-1.now k l.taken l.slots-1) e l.invariant in record {
+      shares = s.requires.0;
+      starts = s.requires.1.0;
+      taken_value = filled_count a.t1 a.n a.u a.slots-1.now long s.requires.1.1 l.taken l.slots-1 f;
+      listed = filled_listed a.t1 a.n a.u a.slots-1.now long s.requires.1.1 l.taken l.slots-1 f;
+    }
 
 pub shape_of-slots : goal.shape_of-slots
 shape_of-slots c = let a = c.args in

@@ -106,10 +106,8 @@ shape_of-rests c = let a = c.args in
 
 pub returns : goal.returns
 returns c = let a = c.args in
-    let at = c.loop-i in (
-      all_left a.m a.weights.now (omega arith) at.i at.left at.invariant.3 (omega arith),
-      (
-        copy_all 0 (rounded_down a.m a.weights.now) a.shares.now at.shares at.i at.invariant.1 (omega (arith, rounded_length a.m a.weights.now)) (omega arith),
-        copy_all 0 (remainders a.m a.weights.now) a.rests.now at.rests at.i at.invariant.2 (omega (arith, remainders_length a.m a.weights.now)) (omega arith),
-      ),
-    )
+    let at = c.loop-i in record {
+      left = all_left a.m a.weights.now (omega arith) at.i at.left at.invariant.3 (omega arith);
+      shares = copy_all 0 (rounded_down a.m a.weights.now) a.shares.now at.shares at.i at.invariant.1 (omega (arith, rounded_length a.m a.weights.now)) (omega arith);
+      rests = copy_all 0 (remainders a.m a.weights.now) a.rests.now at.rests at.i at.invariant.2 (omega (arith, remainders_length a.m a.weights.now)) (omega arith);
+    }

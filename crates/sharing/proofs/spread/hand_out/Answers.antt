@@ -34,8 +34,8 @@ loop-given-init c = (search rules, refl, refl)
 pub serve_one-requires : goal.serve_one-requires
 serve_one-requires c = let a = c.args in
     let at = c.loop-given in
-    ready (record { shares = a.shares-1.now; unserved = a.rests-1.now }) at.given at.shares-1 at.rests-1 at.invariant.1 at.invariant.2
-    (omega arith) (omega arith) (omega arith)
+    let all = ready (record { shares = a.shares-1.now; unserved = a.rests-1.now }) at.given at.shares-1 at.rests-1 at.invariant.1 at.invariant.2
+    (omega arith) (omega arith) (omega arith) in record { in_bounds = all.0; rests_len = all.1.0; shares_bound = all.1.1 }
 
 pub loop-given-preserved : goal.loop-given-preserved
 loop-given-preserved c = let a = c.args in

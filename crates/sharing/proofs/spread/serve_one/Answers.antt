@@ -40,5 +40,7 @@ bounds-rests-place c =
 
 pub returns : goal.returns
 returns c = let a = c.args in
-    let at = c.largest_place-place.ensures in
-    (ap (λ (p : ℕ). set a.shares.now p (get_or a.shares.now p 0 + 1)) at, ap (λ (p : ℕ). set a.rests.now p 0) at)
+    let at = c.largest_place-place.ensures in record {
+      shares = ap (λ (p : ℕ). set a.shares.now p (get_or a.shares.now p 0 + 1)) at;
+      rests = ap (λ (p : ℕ). set a.rests.now p 0) at;
+    }

@@ -35,16 +35,16 @@ module _ (m : ℕ) (ws ss : List ℕ) (shares : ss ≡ shares_of m ws) where
 pub hand_out-requires : goal.hand_out-requires
 hand_out-requires c = let start = c in
     let d = c.divide-units in
-    ready start.args.m start.args.weights.now d.result d.new.1.1.0 d.new.1.1.1.0 d.ensures.0 d.ensures.1.0 d.ensures.1.1
-    (omega arith) (omega arith) (omega arith)
+    let all = ready start.args.m start.args.weights.now d.result d.new.1.1.0 d.new.1.1.1.0 d.ensures.0 d.ensures.1.0 d.ensures.1.1
+    (omega arith) (omega arith) (omega arith) in record { in_bounds = all.0; rests_len = all.1.0; units_bound = all.1.1 }
 
 pub write-requires : goal.write-requires
 write-requires c =
     let shares-now : c.hand_out.new.1.0 ≡ shares_of c.args.m c.args.weights.now = let a = c.args in let d = c.divide-units in handed a.m a.weights.now d.result d.new.1.1.0 d.new.1.1.1.0 d.ensures.0 d.ensures.1.0 d.ensures.1.1 c.hand_out.new.1.0 c.hand_out.ensures in
     let start = c in
     let h = c in
-    writable start.args.m start.args.weights.now h.hand_out.new.1.0 shares-now start.requires.1.0.above start.requires.0
-    (length start.args.out.now) (omega (arith, start.requires.1.1.1.1))
+    let all = writable start.args.m start.args.weights.now h.hand_out.new.1.0 shares-now start.requires.1.0.above start.requires.0
+    (length start.args.out.now) (omega (arith, start.requires.1.1.1.1)) in record { shares_bound = all.0; out_len = all.1 }
 
 pub returns : goal.returns
 returns c =

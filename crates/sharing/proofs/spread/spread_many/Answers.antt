@@ -19,13 +19,13 @@ pub slice_bounds-spread_by-end-4 : goal.slice_bounds-spread_by-end-4
 slice_bounds-spread_by-end-4 c = sym (length-take-le _ _ (omega arith))
 
 pub spread_by-requires : goal.spread_by-requires
-spread_by-requires c = let start = c in (
-  start.requires.0,
-  (
-    just_enough start.args.weights.now (length start.args.out.now) _ start.requires.1 (length-take-le _ _ (omega arith)),
-    (length-take-le _ _ (omega arith), (length-take-le _ _ (omega arith), length-take-le _ _ (omega arith))),
-  ),
-)
+spread_by-requires c = let start = c in record {
+  m_bound = start.requires.0;
+  allowed = just_enough start.args.weights.now (length start.args.out.now) _ start.requires.1 (length-take-le _ _ (omega arith));
+  shares_len = length-take-le _ _ (omega arith);
+  rests_len = length-take-le _ _ (omega arith);
+  out_len = length-take-le _ _ (omega arith);
+}
 
 pub returns : goal.returns
 returns c = let a = c.args in

@@ -24,7 +24,7 @@ pub loop-i-preserved : goal.loop-i-preserved
 loop-i-preserved c = let a = c.args in
     let at = c.loop-i in
     let share = get_or a.shares.now at.i 0 in
-    let is = read_back c.signed.result c.signed.type-inv ∙ c.signed.ensures
+    let is = read_back c.signed.result c.signed.type_inv ∙ c.signed.ensures
     ∙ held_within a.negative share (omega (arith, place_within a.shares.now at.i)) in (
       omega arith,
       fill_more 0 (λ k. get_or (map (signed_of a.negative) a.shares.now) k (signed_of a.negative 0)) a.out.now at.out at.i at.i _ at.invariant.1 (omega arith)

@@ -17,8 +17,11 @@ pub shape_of-values-then-end-word : goal.shape_of-values-then-end-word
 shape_of-values-then-end-word c = c.loop-at.invariant.values-sized
 
 pub returns-then-end-word : goal.returns-then-end-word
-returns-then-end-word c = let w = c in
-    empty_word _ _ _ _ _ _ _ _ _ w.loop-at.invariant _ c.spoken_of.ensures _ w.word_from-word.ensures c.if-end-word.true
+returns-then-end-word c = let w = c in record {
+  said = (empty_word _ _ _ _ _ _ _ _ _ w.loop-at.invariant _ c.spoken_of.ensures _ w.word_from-word.ensures c.if-end-word.true).0;
+  signs = (empty_word _ _ _ _ _ _ _ _ _ w.loop-at.invariant _ c.spoken_of.ensures _ w.word_from-word.ensures c.if-end-word.true).1.0;
+  magnitudes = (empty_word _ _ _ _ _ _ _ _ _ w.loop-at.invariant _ c.spoken_of.ensures _ w.word_from-word.ensures c.if-end-word.true).1.1;
+}
 
 pub hear-step-requires : goal.hear-step-requires
 hear-step-requires c = let w = c in
@@ -40,4 +43,8 @@ pub shape_of-values : goal.shape_of-values
 shape_of-values c = c.loop-at.invariant.values-sized
 
 pub returns : goal.returns
-returns c = line_heard _ _ _ _ _ _ _ _ _ c.loop-at.invariant _ c.spoken_of-2.ensures c.loop-at-test.false
+returns c = record {
+  said = (line_heard _ _ _ _ _ _ _ _ _ c.loop-at.invariant _ c.spoken_of-2.ensures c.loop-at-test.false).0;
+  signs = (line_heard _ _ _ _ _ _ _ _ _ c.loop-at.invariant _ c.spoken_of-2.ensures c.loop-at-test.false).1.0;
+  magnitudes = (line_heard _ _ _ _ _ _ _ _ _ c.loop-at.invariant _ c.spoken_of-2.ensures c.loop-at-test.false).1.1;
+}

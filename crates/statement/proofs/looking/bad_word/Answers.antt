@@ -8,4 +8,4 @@ use Rattle.amount.specs.Amounts.{over_l}
 use Rattle.statement.proofs.looking.bad_word.Goals as goal
 
 pub returns : goal.returns
-returns c = ap over_l (c.magnitude.ensures ∙ ap magnitude_of (read_back c.from_word.result c.from_word.type-inv ∙ c.from_word.ensures))
+returns c = ap over_l (c.magnitude.ensures ∙ ap magnitude_of (read_back c.from_word.result c.from_word.type_inv ∙ c.from_word.ensures))

@@ -29,10 +29,10 @@ loop-i-init c = let a = c.args in
 pub bad_record-requires : goal.bad_record-requires
 bad_record-requires c = let start = c in
     let a = start.args in
-    let at = c.loop-i in (
-      omega (arith, c.number_at-agreed.ensures, number_below a.bytes.now (λ i. (c.shared_slice_known-1.given i).fits) (a.first + 2) 2),
-      omega (arith, record_inside a.reasons (length a.bytes.now) a.first a.count start.requires at.i at.at at.invariant.1 c.loop-i-test.true),
-    )
+    let at = c.loop-i in record {
+      agreed_bound = omega (arith, c.number_at-agreed.ensures, number_below a.bytes.now (λ i. (c.shared_slice_known-1.given i).fits) (a.first + 2) 2);
+      reasons_in_bounds = omega (arith, record_inside a.reasons (length a.bytes.now) a.first a.count start.requires at.i at.at at.invariant.1 c.loop-i-test.true);
+    }
 
 pub returns-then-bad_record : goal.returns-then-bad_record
 returns-then-bad_record c =
@@ -52,7 +52,7 @@ add-sum-requires c =
     let looked : c.bad_record.result ≡ bad_record c.args.reasons c.args.bytes.now (agreed_in c.args.bytes.now c.args.first) (record_place (record_width c.args.reasons) c.args.first c.loop-i.i) = c.bad_record.ensures ∙ ap₂ (bad_record c.args.reasons c.args.bytes.now) c.number_at-agreed.ensures c.loop-i.invariant.1 in
     let still : any_of (λ k. bad_record c.args.reasons c.args.bytes.now (agreed_in c.args.bytes.now c.args.first) (record_place (record_width c.args.reasons) c.args.first k)) (c.loop-i.i + 1) ≡ false = let a = c.args in let at = c.loop-i in still_none (λ k. bad_record a.reasons a.bytes.now (agreed_in a.bytes.now a.first) (record_place (record_width a.reasons) a.first k)) at.i at.invariant.2 (sym looked ∙ c.if-bad_record.false) in
     let small : Few (coefficients_in c.args.bytes.now (record_width c.args.reasons) c.args.first) (c.loop-i.i + 1) = let start = c in let a = start.args in all_small a.reasons a.bytes.now a.first (c.loop-i.i + 1) (omega (arith, start.requires.few, c.loop-i-test.true)) still in
-    let read : to_z w64 (of_z w64 c.coefficient_at.result) ≡ coefficients_in c.args.bytes.now (record_width c.args.reasons) c.args.first c.loop-i.i = read_back c.coefficient_at.result c.coefficient_at.type-inv ∙ c.coefficient_at.ensures ∙ ap (coefficient_at c.args.bytes.now) c.loop-i.invariant.1 in
+    let read : to_z w64 (of_z w64 c.coefficient_at.result) ≡ coefficients_in c.args.bytes.now (record_width c.args.reasons) c.args.first c.loop-i.i = read_back c.coefficient_at.result c.coefficient_at.type_inv ∙ c.coefficient_at.ensures ∙ ap (coefficient_at c.args.bytes.now) c.loop-i.invariant.1 in
     let a = c.args in
     let at = c.loop-i in
     sum_fits (coefficients_in a.bytes.now (record_width a.reasons) a.first) (at.i + 1) small at.i at.sum at.invariant.3 (omega arith) _ read
@@ -68,7 +68,7 @@ loop-i-preserved c =
     let looked : c.bad_record.result ≡ bad_record c.args.reasons c.args.bytes.now (agreed_in c.args.bytes.now c.args.first) (record_place (record_width c.args.reasons) c.args.first c.loop-i.i) = c.bad_record.ensures ∙ ap₂ (bad_record c.args.reasons c.args.bytes.now) c.number_at-agreed.ensures c.loop-i.invariant.1 in
     let still : any_of (λ k. bad_record c.args.reasons c.args.bytes.now (agreed_in c.args.bytes.now c.args.first) (record_place (record_width c.args.reasons) c.args.first k)) (c.loop-i.i + 1) ≡ false = let a = c.args in let at = c.loop-i in still_none (λ k. bad_record a.reasons a.bytes.now (agreed_in a.bytes.now a.first) (record_place (record_width a.reasons) a.first k)) at.i at.invariant.2 (sym looked ∙ c.if-bad_record.false) in
     let small : Few (coefficients_in c.args.bytes.now (record_width c.args.reasons) c.args.first) (c.loop-i.i + 1) = let start = c in let a = start.args in all_small a.reasons a.bytes.now a.first (c.loop-i.i + 1) (omega (arith, start.requires.few, c.loop-i-test.true)) still in
-    let read : to_z w64 (of_z w64 c.coefficient_at.result) ≡ coefficients_in c.args.bytes.now (record_width c.args.reasons) c.args.first c.loop-i.i = read_back c.coefficient_at.result c.coefficient_at.type-inv ∙ c.coefficient_at.ensures ∙ ap (coefficient_at c.args.bytes.now) c.loop-i.invariant.1 in
+    let read : to_z w64 (of_z w64 c.coefficient_at.result) ≡ coefficients_in c.args.bytes.now (record_width c.args.reasons) c.args.first c.loop-i.i = read_back c.coefficient_at.result c.coefficient_at.type_inv ∙ c.coefficient_at.ensures ∙ ap (coefficient_at c.args.bytes.now) c.loop-i.invariant.1 in
     let a = c.args in
     let at = c.loop-i in (
       omega arith,

@@ -9,7 +9,7 @@ use Rattle.whole.proofs.signed.Reads as signed-Reads
 use Rattle.statement.proofs.numbers.from_word.Goals as goal
 
 pub returns-then-word-lt9223372036854775808 : goal.returns-then-word-lt9223372036854775808
-returns-then-word-lt9223372036854775808 c = read_back c.signed.result c.signed.type-inv ∙ c.signed.ensures ∙ held_small c.args.word c.if-word-lt9223372036854775808.true
+returns-then-word-lt9223372036854775808 c = read_back c.signed.result c.signed.type_inv ∙ c.signed.ensures ∙ held_small c.args.word c.if-word-lt9223372036854775808.true
 
 pub returns-else-word-lt9223372036854775808 : goal.returns-else-word-lt9223372036854775808
-returns-else-word-lt9223372036854775808 c = read_back c.signed-else-word-lt9223372036854775808.result c.signed-else-word-lt9223372036854775808.type-inv ∙ c.signed-else-word-lt9223372036854775808.ensures ∙ held_large c.args.word c.if-word-lt9223372036854775808.false
+returns-else-word-lt9223372036854775808 c = read_back c.signed-else-word-lt9223372036854775808.result c.signed-else-word-lt9223372036854775808.type_inv ∙ c.signed-else-word-lt9223372036854775808.ensures ∙ held_large c.args.word c.if-word-lt9223372036854775808.false

@@ -19,4 +19,4 @@ overflow_sub-result c = let start = c in
 pub returns : goal.returns
 returns c = let start = c in
     summary_is start.args.reasons start.args.bytes.now start.requires c.version_of.result c.version_of.ensures c.trailer_at-trailer.result c.trailer_at-trailer.ensures _
-    (read_back c.from_word.result c.from_word.type-inv ∙ c.from_word.ensures)
+    (read_back c.from_word.result c.from_word.type_inv ∙ c.from_word.ensures)

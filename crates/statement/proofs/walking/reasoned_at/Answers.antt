@@ -11,7 +11,7 @@ use Rattle.statement.proofs.Widths.{wide, parts, code_narrow, code_read}
 use Rattle.statement.proofs.walking.reasoned_at.Goals as goal
 
 pub number_at-requires : goal.number_at-requires
-number_at-requires c = (omega arith, omega (arith, c.requires, wide c.args.reasons))
+number_at-requires c = record { count_bound = omega arith; count_in_bounds = omega (arith, c.requires, wide c.args.reasons) }
 
 pub overflow_cast-result : goal.overflow_cast-result
 overflow_cast-result c = let a = c.args in
@@ -21,7 +21,7 @@ pub overflow_add-at : goal.overflow_add-at
 overflow_add-at c = omega (arith, c.requires, wide c.args.reasons)
 
 pub number_at-requires-2 : goal.number_at-requires-2
-number_at-requires-2 c = (omega arith, omega (arith, c.requires, wide c.args.reasons))
+number_at-requires-2 c = record { count_bound = omega arith; count_in_bounds = omega (arith, c.requires, wide c.args.reasons) }
 
 pub overflow_cast-result-2 : goal.overflow_cast-result-2
 overflow_cast-result-2 c = let a = c.args in
@@ -34,8 +34,10 @@ pub overflow_add-at-2 : goal.overflow_add-at-2
 overflow_add-at-2 c = omega (arith, c.requires, wide c.args.reasons)
 
 pub number_at-requires-3 : goal.number_at-requires-3
-number_at-requires-3 c = let r = c.args.reasons in
-    (omega (arith, c.code_bytes.ensures, code_narrow r), omega (arith, c.code_bytes.ensures, c.requires, parts r))
+number_at-requires-3 c = let r = c.args.reasons in record {
+  count_bound = omega (arith, c.code_bytes.ensures, code_narrow r);
+  count_in_bounds = omega (arith, c.code_bytes.ensures, c.requires, parts r);
+}
 
 pub overflow_cast-result-3 : goal.overflow_cast-result-3
 overflow_cast-result-3 c =
@@ -48,5 +50,5 @@ returns c =
     let code : c.number_at-3.result ≡ number_at c.args.bytes.now (c.args.at + 16) (code_bytes c.args.reasons) = c.number_at-3.ensures ∙ ap (number_at c.args.bytes.now (c.args.at + 16)) c.code_bytes.ensures in
     let place = c.number_at.ensures in
     let currency = c.number_at-2.ensures in
-    let coefficient = read_back c.coefficient_at.result c.coefficient_at.type-inv ∙ c.coefficient_at.ensures in
+    let coefficient = read_back c.coefficient_at.result c.coefficient_at.type_inv ∙ c.coefficient_at.ensures in
     simp (place, currency, coefficient, code)

@@ -69,5 +69,7 @@ returns c =
     let start = c in
     let a = start.args in
     let at = c.loop-i in
-    let all : at.i ≡ length a.places.now = omega arith in
-    (at.invariant.1 ∙ ap (λ (n : ℕ). a.start + record_width a.reasons * n) all, at.invariant.2 ∙ ap (λ (n : ℕ). pasted a.start (joined pieces n) a.out-1.now) all)
+    let all : at.i ≡ length a.places.now = omega arith in record {
+      end = at.invariant.1 ∙ ap (λ (n : ℕ). a.start + record_width a.reasons * n) all;
+      buffer = at.invariant.2 ∙ ap (λ (n : ℕ). pasted a.start (joined pieces n) a.out-1.now) all;
+    }

@@ -17,14 +17,14 @@ put_file-requires c = let a = c.args in
 pub returns-in-Refused : goal.returns-in-Refused
 unfolding reasons_said
 returns-in-Refused c = let a = c.args in
-    answers_refused (reasons_rows a.currency a.places.now a.reasons.now a.coefficients.now (length a.out-1.now) a.start) (a.start + file_size true (length a.places.now)) a.start
+    let all = answers_refused (reasons_rows a.currency a.places.now a.reasons.now a.coefficients.now (length a.out-1.now) a.start) (a.start + file_size true (length a.places.now)) a.start
     (file_of true (payout_with a.currency a.places.now a.reasons.now a.coefficients.now) (length a.places.now)) a.out-1.now c.in-Refused.refusal
-    (sym c.check_reasons.ensures ∙ c.in-Refused.is)
+    (sym c.check_reasons.ensures ∙ c.in-Refused.is) in record { said = all.0; end = all.1.0; buffer = all.1.1 }
 
 pub returns-in-Passed : goal.returns-in-Passed
 unfolding reasons_said
 returns-in-Passed c = let a = c.args in
     let put = c.put_file in
-    answers_written (reasons_rows a.currency a.places.now a.reasons.now a.coefficients.now (length a.out-1.now) a.start) (a.start + file_size true (length a.places.now)) a.start
+    let all = answers_written (reasons_rows a.currency a.places.now a.reasons.now a.coefficients.now (length a.out-1.now) a.start) (a.start + file_size true (length a.places.now)) a.start
     (file_of true (payout_with a.currency a.places.now a.reasons.now a.coefficients.now) (length a.places.now)) a.out-1.now put.result put.new.1.1.1.1.1.0
-    (sym c.check_reasons.ensures ∙ c.in-Passed.is) put.ensures.0 put.ensures.1
+    (sym c.check_reasons.ensures ∙ c.in-Passed.is) put.ensures.0 put.ensures.1 in record { said = all.0; end = all.1.0; buffer = all.1.1 }

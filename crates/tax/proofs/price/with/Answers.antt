@@ -9,4 +9,4 @@ use Rattle.tax.proofs.price.with.Goals as goal
 pub returns : goal.returns
 returns c = let a = c.args in
     ap (like a.a)
-    (read_back c.signed.result c.signed.type-inv ∙ c.signed.ensures ∙ held_within a.negative a.m (omega (arith, c.requires)))
+    (read_back c.signed.result c.signed.type_inv ∙ c.signed.ensures ∙ held_within a.negative a.m (omega (arith, c.requires)))

@@ -27,7 +27,7 @@ returns-then-m-gt-L c = let a = c.args in sym (over_said a.currency a.negative a
 pub returns : goal.returns
 returns c = let a = c.args in
     let is : to_z w64 (of_z w64 c.signed.result) ≡ signed_of a.negative a.m =
-    read_back c.signed.result c.signed.type-inv ∙ c.signed.ensures ∙ held_within a.negative a.m (omega (arith, largest_below, c.if-m-gt-L.false)) in
+    read_back c.signed.result c.signed.type_inv ∙ c.signed.ensures ∙ held_within a.negative a.m (omega (arith, largest_below, c.if-m-gt-L.false)) in
     let zero : signed_zero a.negative a.m ≡ false =
     ⊎_elim (λ w. ap (λ (s : Bool). signed_zero s a.m) w.1.left) (λ w. zero_good a.negative a.m (λ e. omega (arith, w.left))) c.if-m-eq0.branch in
     ap (λ (z : ℤ). gives (record { currency = a.currency; scale = a.scale; coefficient = z })) is

@@ -29,7 +29,7 @@ loop-given-init c = (search rules, refl)
 pub give_one-requires : goal.give_one-requires
 give_one-requires c = let a = c.args in
     let at = c.loop-given in
-    ready a.weights.now a.held-1.now at.held-1 at.given at.invariant.1 (omega arith) (omega arith) (omega arith)
+    let all = ready a.weights.now a.held-1.now at.held-1 at.given at.invariant.1 (omega arith) (omega arith) (omega arith) in record { in_bounds = all.0; held_len = all.1.0; held_bound = all.1.1 }
 
 pub loop-given-preserved : goal.loop-given-preserved
 loop-given-preserved c = let a = c.args in

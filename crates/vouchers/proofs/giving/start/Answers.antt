@@ -77,7 +77,7 @@ shape_of-held c = let a = c.args in
 
 pub returns : goal.returns
 returns c = let a = c.args in
-    let at = c.loop-i in (
-      all_left a.count a.weights.now (omega arith) at.i at.left at.invariant.2 (omega arith),
-      copy_all 0 (rounded_down a.count a.weights.now) a.held.now at.held at.i at.invariant.1 (omega (arith, rounded_length a.count a.weights.now)) (omega arith),
-    )
+    let at = c.loop-i in record {
+      left = all_left a.count a.weights.now (omega arith) at.i at.left at.invariant.2 (omega arith);
+      held = copy_all 0 (rounded_down a.count a.weights.now) a.held.now at.held at.i at.invariant.1 (omega (arith, rounded_length a.count a.weights.now)) (omega arith);
+    }
