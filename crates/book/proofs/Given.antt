@@ -79,7 +79,7 @@ module _ (b : Book) where
     unfolding with_book weight_rows not_own_digits
     own_digits =
         let known : unknown b.currency ≡ false = (clear (book_rows b) sound).1.1.1.0 in
-        (rw (known, eq-eqb (line_of b.currency).digits (line_of b.currency).digits refl), (in_table b.currency (ltb-false last_currency b.currency.0 known)).few-digits)
+        (rw (known, eq-eqb (line_of b.currency).digits (line_of b.currency).digits refl), (in_table b.currency (ltb-false last_currency b.currency.0 known)).few_digits)
 
     pub left_of_call : {A : Type 0} (value : Said A) (last : Row) (n : ℕ) (z : ℤ) → settled_sum b + n ≤ largest
         → first_row (move_rows (book_at b (pos n)) (amount_of (book_at b (pos n)) z) ++ (last ∷ [])) value

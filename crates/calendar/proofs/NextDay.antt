@@ -26,28 +26,28 @@ after d h = at (dec_lt d.day (month_length d.year d.month))
         rw (le-ltb d.day (month_length d.year d.month) (omega arith), lt-ltb d.month 12 l) (
           record {
             since = h.since;
-            month-from = omega arith;
-            month-to = omega arith;
-            day-from = omega arith;
-            day-to = some_day d.year (d.month + 1) (omega arith) (omega arith);
+            month_from = omega arith;
+            month_to = omega arith;
+            day_from = omega arith;
+            day_to = some_day d.year (d.month + 1) (omega arith) (omega arith);
           },
-          rw same (omega (arith, one_month d.year d.month h.month-from)),
+          rw same (omega (arith, one_month d.year d.month h.month_from)),
         )
     months last (no f) =
         let december : d.month ≡ 12 = omega arith in
         rw (le-ltb d.day (month_length d.year d.month) (omega arith), le-ltb d.month 12 (omega arith)) (
           record {
             since = omega arith;
-            month-from = omega arith;
-            month-to = omega arith;
-            day-from = omega arith;
-            day-to = some_day (d.year + 1) 1 (omega arith) (omega arith);
+            month_from = omega arith;
+            month_to = omega arith;
+            day_from = omega arith;
+            day_to = some_day (d.year + 1) 1 (omega arith) (omega arith);
           },
           omega (
             arith,
             one_year d.year h.since,
             ap (days_of_months d.year) december,
-            one_month d.year d.month h.month-from,
+            one_month d.year d.month h.month_from,
             no_months (d.year + 1),
           ),
         )
@@ -57,10 +57,10 @@ after d h = at (dec_lt d.day (month_length d.year d.month))
         rw (lt-ltb _ _ l) (
           record {
             since = h.since;
-            month-from = h.month-from;
-            month-to = h.month-to;
-            day-from = omega arith;
-            day-to = omega arith;
+            month_from = h.month_from;
+            month_to = h.month_to;
+            day_from = omega arith;
+            day_to = omega arith;
           },
           omega arith,
         )

@@ -24,12 +24,12 @@ dated d e = on_calendar d.year d.month d.day e
 
 -- the days of a month and of a year hold the date's
 in_month : (d : Date) → Dated d → days_of_months d.year (d.month - 1) + d.day ≤ days_of_months d.year d.month
-in_month d h = omega (arith, one_month d.year d.month h.month-from)
+in_month d h = omega (arith, one_month d.year d.month h.month_from)
 
 in_year : (d : Date) → Dated d → day_of d ≤ days_of_years (d.year + 1 - 1900)
 unfolding day_number
 in_year d h =
-    omega (arith, in_month d h, months_rise d.year d.month 12 h.month-to, one_year d.year h.since)
+    omega (arith, in_month d h, months_rise d.year d.month 12 h.month_to, one_year d.year h.since)
 
 pub number_within : (d : Date) → date_exists d ≡ true → day_of d ≤ 366 * 300
 number_within d e =
@@ -66,12 +66,12 @@ compared d e = years (dec_lt d.year e.year) (dec_lt e.year d.year)
 pub earlier_less : (d e : Date) → Dated d → Dated e → Earlier d e → day_of d < day_of e
 unfolding day_number
 earlier_less d e first second (by_year h) =
-    omega (arith, in_year d first, years_rise (d.year + 1 - 1900) (e.year - 1900) (omega arith), second.day-from)
+    omega (arith, in_year d first, years_rise (d.year + 1 - 1900) (e.year - 1900) (omega arith), second.day_from)
 earlier_less d e first second (by_month y h) =
     let months : days_of_months d.year d.month ≤ days_of_months e.year (e.month - 1) =
     rw y (months_rise e.year d.month (e.month - 1) (omega arith)) in
     let years : days_of_years (d.year - 1900) ≡ days_of_years (e.year - 1900) = rw y in
-    omega (arith, in_month d first, second.day-from)
+    omega (arith, in_month d first, second.day_from)
 earlier_less d e first second (by_day y m h) = rw (y, m) (omega arith)
 
 module _ (d e : Date) (first : Dated d) (second : Dated e) where

@@ -31,7 +31,7 @@ module _ (start end : Date) (dates : InOrder start end) where
   end_day : end.day ≤ 31
   end_day =
       let h : Dated end = dated end dates.second in
-      omega (arith, days_31 end.year end.month h.month-from h.month-to)
+      omega (arith, days_31 end.year end.month h.month_from h.month_to)
 
   pub same_else : (Parts start end → ⊥) → thirty american start end ≡ thirty european start end
   same_else apart = at (ℕ_discrete end.day 31)

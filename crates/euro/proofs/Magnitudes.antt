@@ -39,13 +39,13 @@ module _ (sign : Bool) (m f d : ℕ) where
 module _ (l : Line) (good : Good l) where
   -- K x 10^digits, as a program has it and within the leaf's limits
   unit_is : l.figures * power_of_ten l.digits ≡ l.figures * 10 ^ l.digits
-  unit_is = ap (λ (x : ℕ). l.figures * x) (power_of_ten_lem l.digits (omega (arith, good.few-digits)))
+  unit_is = ap (λ (x : ℕ). l.figures * x) (power_of_ten_lem l.digits (omega (arith, good.few_digits)))
 
   unit_some : 0 < l.figures * 10 ^ l.digits
   unit_some = mul-pos (omega (arith, good.least)) (one-le-pow l.digits 10 (omega arith))
 
   unit_most : l.figures * 10 ^ l.digits ≤ 10 ^ 18
-  unit_most = omega (arith, mul-le-mul good.most (pow-le-pow_right {n = 10} (omega arith) good.few-digits))
+  unit_most = omega (arith, mul-le-mul good.most (pow-le-pow_right {n = 10} (omega arith) good.few_digits))
 
   pub unit_fits : l.figures * power_of_ten l.digits ≤ 10 ^ 18
   unit_fits = rw unit_is unit_most
@@ -53,14 +53,14 @@ module _ (l : Line) (good : Good l) where
 module _ (l : Line) (good : Good l) (decimals : ℕ) (few : decimals ≤ most_decimals) where
   -- 10^(k + decimals)
   parts_is : power_of_ten (l.places + decimals) ≡ 10 ^ (l.places + decimals)
-  parts_is = power_of_ten_lem (l.places + decimals) (omega (arith, good.few-places))
+  parts_is = power_of_ten_lem (l.places + decimals) (omega (arith, good.few_places))
 
   parts_some : 0 < 10 ^ (l.places + decimals)
   parts_some = one-le-pow (l.places + decimals) 10 (omega arith)
 
   parts_most : 10 ^ (l.places + decimals) ≤ 10 ^ 18
   parts_most =
-      let few_tens : l.places + decimals ≤ 12 = omega (arith, good.few-places) in
+      let few_tens : l.places + decimals ≤ 12 = omega (arith, good.few_places) in
       omega (arith, pow-le-pow_right {n = 10} (omega arith) few_tens)
 
   module _ (sign : Bool) (m : ℕ) where

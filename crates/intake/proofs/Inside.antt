@@ -29,11 +29,11 @@ module _ (text : List ℕ) (at : Intake) where
   unfolding line_of
   line-inside end next unended f h n =
       either (Within (length text)) (at.skipping || ltb longest (stop_of text at.from end - at.from))
-      (λ e. record { in_order = f; short = λ w. other_found (cc); inside = h; next-inside = n; waiting = λ w. other_found (cc) })
+      (λ e. record { in_order = f; short = λ w. other_found (cc); inside = h; next_inside = n; waiting = λ w. other_found (cc) })
       (λ e.
       let s = stop_within text at.from end f in
       let l : stop_of text at.from end - at.from ≤ longest = ltb-false _ _ (not_second at.skipping _ e) in
-      record { in_order = s.0; short = λ w. omega arith; inside = omega arith; next-inside = n; waiting = λ w. other_found (cc) })
+      record { in_order = s.0; short = λ w. omega arith; inside = omega arith; next_inside = n; waiting = λ w. other_found (cc) })
 
   last_inside : at.from ≤ length text → Within (length text) (last_of text at)
   unfolding last_of
@@ -41,7 +41,7 @@ module _ (text : List ℕ) (at : Intake) where
       either (Within (length text)) (at.skipping || ltb at.from (length text))
       (λ e. line-inside (length text) (length text) true h (omega arith) (omega arith))
       (λ e.
-      record { in_order = omega arith; short = λ w. other_found (cc); inside = omega arith; next-inside = h; waiting = λ w. other_found (cc) })
+      record { in_order = omega arith; short = λ w. other_found (cc); inside = omega arith; next_inside = h; waiting = λ w. other_found (cc) })
 
   unended_inside : at.from ≤ length text → Within (length text) (unended_of at (length text))
   unfolding unended_of
@@ -52,7 +52,7 @@ module _ (text : List ℕ) (at : Intake) where
       (at.skipping || ltb (longest + 1) (length text - at.from))
       (λ e. (omega arith, omega arith))
       (λ e. let l : length text - at.from ≤ longest + 1 = ltb-false _ _ (not_second at.skipping _ e) in (h, omega arith)) in
-      record { in_order = h; short = λ w. other_found (cc); inside = omega arith; next-inside = waits.0; waiting = λ w. waits.1 }
+      record { in_order = h; short = λ w. other_found (cc); inside = omega arith; next_inside = waits.0; waiting = λ w. waits.1 }
 
   from_inside : at.from ≤ length text → Within (length text) (cut_from text at)
   unfolding cut_from

@@ -124,7 +124,7 @@ module _ (line : List ℕ) (from : ℕ) where
 
       lists_are : numbers_in line from ≡ count → (signs ≡ signs_of line from signs₀) × (values ≡ magnitudes_of line from values₀)
       unfolding signs_of magnitudes_of
-      lists_are e = rw e (t.signs-are, t.values-are)
+      lists_are e = rw e (t.signs_are, t.values_are)
 
       no_more : (word_from line at).end ≤ (word_from line at).start → Ended (Numbers count)
       unfolding given_of
@@ -154,10 +154,10 @@ module _ (line : List ℕ) (from : ℕ) where
               let places = word-places word w l s in
               let signs_now : signs' ≡ filled 0 (λ k. sign_in (number_behind line from k)) (count + 1) signs₀ =
               rw y at told.1.0
-              ∙ fill_more 0 (λ k. sign_in (number_behind line from k)) signs₀ signs count count (sign_in (number_at line word)) t.signs-are (omega arith) (ap sign_in same) in
+              ∙ fill_more 0 (λ k. sign_in (number_behind line from k)) signs₀ signs count count (sign_in (number_at line word)) t.signs_are (omega arith) (ap sign_in same) in
               let values_now : values' ≡ filled 0 (λ k. magnitude_in (number_behind line from k)) (count + 1) values₀ =
               rw y at told.1.1
-              ∙ fill_more 0 (λ k. magnitude_in (number_behind line from k)) values₀ values count count (magnitude_in (number_at line word)) t.values-are (omega arith)
+              ∙ fill_more 0 (λ k. magnitude_in (number_behind line from k)) values₀ values count count (magnitude_in (number_at line word)) t.values_are (omega arith)
               (ap magnitude_in same) in
               record {
                 place = rw (add-one count, w, t.place);

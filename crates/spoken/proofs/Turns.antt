@@ -99,6 +99,6 @@ module _ (line : List ℕ) (form : Form) where
             is = rw (add-one s.words, s.is, lt-ltb (word_from line at).start (word_from line at).end (rw w at h), ← steps, w, is-signs, is-values) refl;
             few = omega (arith, s.before, places);
             before = omega (arith, s.before, places);
-            signs_sized = ap length is-signs ∙ length_put step.two false step.negative heard.count signs ∙ s.signs-sized;
-            values_sized = ap length is-values ∙ length_put step.two step.front step.last heard.count values ∙ s.values-sized;
+            signs_sized = ap length is-signs ∙ length_put step.two false step.negative heard.count signs ∙ s.signs_sized;
+            values_sized = ap length is-values ∙ length_put step.two step.front step.last heard.count values ∙ s.values_sized;
           }

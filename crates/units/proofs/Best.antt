@@ -13,7 +13,7 @@ use Rattle.whole.proofs.Sums.{and_last}
 -- place p is the best of the first n
 pub record Chosen (may : ℕ → Bool) (owed : ℕ → ℕ) (n p : ℕ) : Type 0 where
   pub partner : p < n
-  pub may_take_lem : may p ≡ true
+  pub eligible : may p ≡ true
   pub smallest : (q : ℕ) → q < n → may q ≡ true → owed p ≤ owed q
   pub lower : (q : ℕ) → q < n → may q ≡ true → owed q ≡ owed p → p ≤ q
 
@@ -31,7 +31,7 @@ module _ (may : ℕ → Bool) (owed : ℕ → ℕ) where
   first n none false e = and_last (λ q. may q ≡ false) n none e
   first n none true e = record {
     partner = le_refl (suc n);
-    may_take_lem = e;
+    eligible = e;
     smallest = and_last (λ q. may q ≡ true → owed n ≤ owed q) n (λ q l m. absurd (not_both m (none q l))) (λ m. le_refl (owed n));
     lower = and_last (λ q. may q ≡ true → owed q ≡ owed n → n ≤ q) n (λ q l m. absurd (not_both m (none q l))) (λ m s. le_refl n);
   }
@@ -41,7 +41,7 @@ module _ (may : ℕ → Bool) (owed : ℕ → ℕ) where
       → Best may owed (suc n) (cond m (cond s (place n) (place p)) (place p))
   next n p c false s e f = record {
     partner = omega arith;
-    may_take_lem = c.may-take;
+    eligible = c.eligible;
     smallest = and_last (λ q. may q ≡ true → owed p ≤ owed q) n c.smallest (λ m. absurd (not_both m e));
     lower = and_last (λ q. may q ≡ true → owed q ≡ owed p → p ≤ q) n c.lower (λ m. absurd (not_both m e));
   }
@@ -49,7 +49,7 @@ module _ (may : ℕ → Bool) (owed : ℕ → ℕ) where
       let less : owed n < owed p = ltb-true (owed n) (owed p) f in
       record {
         partner = le_refl (suc n);
-        may_take_lem = e;
+        eligible = e;
         smallest = and_last (λ q. may q ≡ true → owed n ≤ owed q) n (λ q l m. omega (arith, c.smallest q l m)) (λ m. le_refl (owed n));
         lower = and_last (λ q. may q ≡ true → owed q ≡ owed n → n ≤ q) n (λ q l m s. omega (arith, c.smallest q l m)) (λ m s. le_refl n);
       }
@@ -57,7 +57,7 @@ module _ (may : ℕ → Bool) (owed : ℕ → ℕ) where
       let more : owed p ≤ owed n = ltb-false (owed n) (owed p) f in
       record {
         partner = omega arith;
-        may_take_lem = c.may-take;
+        eligible = c.eligible;
         smallest = and_last (λ q. may q ≡ true → owed p ≤ owed q) n c.smallest (λ m. more);
         lower = and_last (λ q. may q ≡ true → owed q ≡ owed p → p ≤ q) n c.lower (λ m s. omega arith);
       }
@@ -74,11 +74,11 @@ module _ (may : ℕ → Bool) (owed : ℕ → ℕ) where
   -- one best
   pub best_one : (n : ℕ) (b c : Taker) → Best may owed n b → Best may owed n c → b ≡ c
   best_one n nobody nobody none none' = refl
-  best_one n nobody (place q) none d = absurd (not_both d.may-take (none q d.partner))
-  best_one n (place p) nobody c none = absurd (not_both c.may-take (none p c.partner))
+  best_one n nobody (place q) none d = absurd (not_both d.eligible (none q d.partner))
+  best_one n (place p) nobody c none = absurd (not_both c.eligible (none p c.partner))
   best_one n (place p) (place q) c d =
-      let same : owed p ≡ owed q = le_antisymm (c.smallest q d.partner d.may-take) (d.smallest p c.partner c.may-take) in
-      ap place (le_antisymm (c.lower q d.partner d.may-take (sym same)) (d.lower p c.partner c.may-take same))
+      let same : owed p ≡ owed q = le_antisymm (c.smallest q d.partner d.eligible) (d.smallest p c.partner c.eligible) in
+      ap place (le_antisymm (c.lower q d.partner d.eligible (sym same)) (d.lower p c.partner c.eligible same))
 
 -- where the same places may, and the due number of each that may is later by the same k, the best is the same
 pub best_moved : (may may' : ℕ → Bool) (owed owed' : ℕ → ℕ) (k n : ℕ) (b : Taker)
@@ -86,10 +86,10 @@ pub best_moved : (may may' : ℕ → Bool) (owed owed' : ℕ → ℕ) (k n : ℕ
     → Best may owed n b → Best may' owed' n b
 best_moved may may' owed owed' k n nobody same moved none = λ q l. same q l ∙ none q l
 best_moved may may' owed owed' k n (place p) same moved c =
-    let here : owed' p ≡ owed p + k = moved p c.partner c.may-take in
+    let here : owed' p ≡ owed p + k = moved p c.partner c.eligible in
     record {
       partner = c.partner;
-      may_take_lem = same p c.partner ∙ c.may-take;
+      eligible = same p c.partner ∙ c.eligible;
       smallest = λ q l m. let m' : may q ≡ true = sym (same q l) ∙ m in omega (arith, moved q l m', c.smallest q l m');
       lower = λ q l m e. let m' : may q ≡ true = sym (same q l) ∙ m in c.lower q l m' (omega (arith, moved q l m'));
     }

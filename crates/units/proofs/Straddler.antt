@@ -39,7 +39,7 @@ unfolding straddler
 straddler_free ws n ahead t p e =
     let c : Chosen (may_straddle ws n ahead t) (due_straddle ws n) (length ws) p =
     rw e at (best_of_lem (may_straddle ws n ahead t) (due_straddle ws n) (length ws)) in
-    (c.partner, (both_of (get_or ahead p 0) (may_take (sum_of ws) t (get_or ws p 0) (lo ws n p)) c.may-take).0)
+    (c.partner, (both_of (get_or ahead p 0) (may_take (sum_of ws) t (get_or ws p 0) (lo ws n p)) c.eligible).0)
 
 module _ (ws : List ℕ) (some : 1 ≤ sum_of ws) (n s : ℕ) (inside : s < n) (ahead : List ℕ)
     (same : (i : ℕ) → i < length ws → get_or ahead i 0 ≡ ahead_at ws n s i) (p : ℕ) (c : Takes ws (totals ws s) (suc s) p)
@@ -63,7 +63,7 @@ module _ (ws : List ℕ) (some : 1 ≤ sum_of ws) (n s : ℕ) (inside : s < n) (
   pub straddler_chosen : Chosen (may_straddle ws n ahead (suc s)) (due_straddle ws n) (length ws) p
   straddler_chosen = record {
     partner = c.partner;
-    may-take = both (get_or ahead p 0) (may_take (sum_of ws) (suc s) (get_or ws p 0) (lo ws n p)) (omega (arith, same p c.partner, taker_holds))
+    eligible = both (get_or ahead p 0) (may_take (sum_of ws) (suc s) (get_or ws p 0) (lo ws n p)) (omega (arith, same p c.partner, taker_holds))
         (rw taker_holds at c.may);
     smallest = λ q l m. rw (taker_holds, holds_too q l m) at (c.smallest q l (may_too q l m));
     lower = λ q l m e. c.lower q l (may_too q l m) (rw (taker_holds, holds_too q l m) e);

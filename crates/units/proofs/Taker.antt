@@ -22,10 +22,10 @@ module _ (ws held : List ℕ) (t : ℕ) where
   taker_of_best b c = best_one (may_at ws held t) (due_at ws held) (length ws) (taker_of ws held t) b taker_best c
 
   pub best_takes : (p : ℕ) → BestAt (place p) → Takes ws held t p
-  best_takes p c = record { partner = c.partner; may = c.may-take; smallest = c.smallest; lower = c.lower }
+  best_takes p c = record { partner = c.partner; may = c.eligible; smallest = c.smallest; lower = c.lower }
 
   pub takes_best : (p : ℕ) → Takes ws held t p → BestAt (place p)
-  takes_best p c = record { partner = c.partner; may-take = c.may; smallest = c.smallest; lower = c.lower }
+  takes_best p c = record { partner = c.partner; eligible = c.may; smallest = c.smallest; lower = c.lower }
 
   -- the rule's answer meets the wording
   pub taker_takes : (p : ℕ) → taker_of ws held t ≡ place p → Takes ws held t p

@@ -26,3 +26,7 @@ loop-i-preserved c = let i = c.loop-i.i in
 pub returns : goal.returns
 returns c = let a = c.args.weights.now in
     c.loop-i.invariant.1 ∙ ap (sum_to (λ k. get_or a k 0)) (omega arith) ∙ sum_list a (length a) refl ∙ sym (weighed_sum a (omega arith))
+
+pub loop-i-init : goal.loop-i-init
+unfolding sum_to
+loop-i-init c = search rules

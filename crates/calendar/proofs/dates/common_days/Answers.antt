@@ -53,5 +53,5 @@ returns-in-11 c = rw c.in-11.is
 pub returns-in_default : goal.returns-in_default
 unfolding leap days_of_months month_length
 returns-in_default c = let month = c.args.month in
-    let last : 12 ≤ month = past month 1 11 c.requires.0 c.in-1.rest in
+    let last : 12 ≤ month = past month 1 11 c.requires.0 c.in_default.in_default-own.rest in
     let december : month ≡ 12 = omega (arith, c.requires) in rw december

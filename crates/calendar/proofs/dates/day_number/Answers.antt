@@ -9,7 +9,7 @@ pub days_before_year-requires : goal.days_before_year-requires
 days_before_year-requires c = (dated c.args.date c.requires).since
 
 pub days_before_month-requires : goal.days_before_month-requires
-days_before_month-requires c = let h = dated c.args.date c.requires in (h.month-from, h.month-to)
+days_before_month-requires c = let h = dated c.args.date c.requires in (h.month_from, h.month_to)
 
 pub overflow_add-result : goal.overflow_add-result
 unfolding day_number

@@ -11,4 +11,4 @@ returns-in-4 c = short_month c.args.year c.args.month c.in-4.is
 
 pub returns-in_default : goal.returns-in_default
 returns-in_default c = let s = c in
-    long_month s.args.year s.args.month s.requires.0 s.requires.1 c.in-2.rest.0.1 c.in-2.rest.1
+    long_month s.args.year s.args.month s.requires.0 s.requires.1 c.in_default.in_default-own.rest.0.1 c.in_default.in_default-own.rest.1

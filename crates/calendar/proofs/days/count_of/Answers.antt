@@ -39,4 +39,4 @@ unfolding actual
 returns-in_default c = let s = c in
     let a = s.args in
     ap₂ ◌-◌ s.requires.second s.requires.first
-    ∙ sym (counts_actual a.basis c.in-2.rest.0.1 c.in-2.rest.1 a.start a.end)
+    ∙ sym (counts_actual a.basis c.in_default.in_default-own.rest.0.1 c.in_default.in_default-own.rest.1 a.start a.end)

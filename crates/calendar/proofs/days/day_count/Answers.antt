@@ -63,12 +63,12 @@ pub count_of-days-requires : goal.count_of-days-requires
 count_of-days-requires c =
     let start-exists : date_exists c.args.start ≡ true = sym c.date_exists.ensures ∙ c.if-not-date_exists.false in
     let end-exists : date_exists c.args.end ≡ true = sym c.date_exists-2.ensures ∙ c.if-not-date_exists-2.false in
-    let numbered : Numbered (call c).args.start (call c).args.end c.day_number-from.result c.day_number-to.result = let third = c in let from = c.day_number-from.ensures in let to = c.day_number-to.ensures in record { dates = record { first = start-exists; second = end-exists; order = omega (arith, c.if-to-from.false, from, to) }; first = from; second = to } in
+    let numbered : Numbered c.args.start c.args.end c.day_number-from.result c.day_number-to.result = let third = c in let from = c.day_number-from.ensures in let to = c.day_number-to.ensures in record { dates = record { first = start-exists; second = end-exists; order = omega (arith, c.if-to-from.false, from, to) }; first = from; second = to } in
     numbered
 
 pub returns-then-days-gt366 : goal.returns-then-days-gt366
 returns-then-days-gt366 c =
-    let call : goal.Start = c in
+    let call = c in
     let start-exists : date_exists c.args.start ≡ true = sym c.date_exists.ensures ∙ c.if-not-date_exists.false in
     let end-exists : date_exists c.args.end ≡ true = sym c.date_exists-2.ensures ∙ c.if-not-date_exists-2.false in
     let numbered : Numbered call.args.start call.args.end c.day_number-from.result c.day_number-to.result = let third = c in let from = c.day_number-from.ensures in let to = c.day_number-to.ensures in record { dates = record { first = start-exists; second = end-exists; order = omega (arith, c.if-to-from.false, from, to) }; first = from; second = to } in
@@ -77,7 +77,7 @@ returns-then-days-gt366 c =
 
 pub returns : goal.returns
 returns c =
-    let call : goal.Start = c in
+    let call = c in
     let start-exists : date_exists c.args.start ≡ true = sym c.date_exists.ensures ∙ c.if-not-date_exists.false in
     let end-exists : date_exists c.args.end ≡ true = sym c.date_exists-2.ensures ∙ c.if-not-date_exists-2.false in
     let numbered : Numbered call.args.start call.args.end c.day_number-from.result c.day_number-to.result = let third = c in let from = c.day_number-from.ensures in let to = c.day_number-to.ensures in record { dates = record { first = start-exists; second = end-exists; order = omega (arith, c.if-to-from.false, from, to) }; first = from; second = to } in

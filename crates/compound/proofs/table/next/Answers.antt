@@ -15,3 +15,7 @@ unfolding interest_on
 overflow_add-result c = let a = c.args in
     let is : c.round.result ≡ interest_on a.rate a.balance = c.round.ensures in
     omega (arith, is, interest_at_most a.rate a.balance c.requires.most, c.requires.within)
+
+pub returns : goal.returns
+unfolding interest_on
+returns c = search rules

@@ -16,4 +16,4 @@ returns-then-currency-gt-LAST c = simp (lt-ltb _ _ c.if-currency-gt-LAST.true)
 pub returns : goal.returns
 unfolding not_own_digits
 returns c = let a = c.args in
-    ap (λ (l : Line). not (eqb a.scale l.digits)) c.Line-of.ensures ∙ sym (rw (le-ltb last_currency a.currency.0 c.if-currency-gt-LAST.false))
+    ap (λ (l : Line). not (eqb a.scale l.digits)) c.line_of-line.ensures ∙ sym (rw (le-ltb last_currency a.currency.0 c.if-currency-gt-LAST.false))

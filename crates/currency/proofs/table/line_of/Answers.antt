@@ -91,4 +91,4 @@ returns-in-20 c = rw c.in-20.is
 
 pub returns-in_default : goal.returns-in_default
 unfolding line_of
-returns-in_default c = sym (get_or-eq_default currencies none (past_keys 21 c.args.currency.0 c.in-0.rest))
+returns-in_default c = sym (get_or-eq_default currencies none (past_keys 21 c.args.currency.0 c.in_default.in_default-own.rest))

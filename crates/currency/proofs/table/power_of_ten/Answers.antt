@@ -58,4 +58,4 @@ returns-in-12 c = rw c.in-12.is
 
 pub returns-in_default : goal.returns-in_default
 unfolding power_of_ten
-returns-in_default c = rw (lt-ltb 12 c.args.k (past_keys 13 c.args.k c.in-0.rest))
+returns-in_default c = rw (lt-ltb 12 c.args.k (past_keys 13 c.args.k c.in_default.in_default-own.rest))

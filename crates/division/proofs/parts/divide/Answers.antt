@@ -27,7 +27,7 @@ returns-then-is_narrow c =
     let inside : within c.args.a c.args.b c.args.d ≡ true = sym c.are_within.ensures ∙ c.if-not-are_within.false in
     let s = c in
     let a = s.args in
-    divides_is a.a a.b a.d _ _ inside (capped_divides a.a a.b a.d c.by_word_lem.ensures c.cap.ensures)
+    divides_is a.a a.b a.d _ _ inside (capped_divides a.a a.b a.d c.by_word-whole.ensures c.cap.ensures)
 
 pub by_parts-requires : goal.by_parts-requires
 by_parts-requires c =

@@ -20,5 +20,5 @@ pub returns : goal.returns
 returns c = let s = c in
     let a = s.args in
     c.within.ensures
-    ∙ ap₂ (settledAt a.to) (ap (λ (l : Line). l.digits) c.Line-of.ensures)
+    ∙ ap₂ (settledAt a.to) (ap (λ (l : Line). l.digits) c.line_of-line.ensures)
     (read_back c.signed.result c.signed.type_inv ∙ c.signed.ensures ∙ held_within a.negative a.m (omega (arith, s.requires)))

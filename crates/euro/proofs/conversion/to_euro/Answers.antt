@@ -17,24 +17,24 @@ use Rattle.euro.proofs.conversion.to_euro.Goals as goal
 
 pub overflow_add-line : goal.overflow_add-line
 overflow_add-line c =
-    let good : Good c.Line-of.result = rw c.Line-of.ensures (in_table c.args.from c.requires.0) in
+    let good : Good c.line_of-line.result = rw c.line_of-line.ensures (in_table c.args.from c.requires.0) in
     omega (arith, good)
 
 pub overflow_mul-unit : goal.overflow_mul-unit
 overflow_mul-unit c =
-    let good : Good c.Line-of.result = rw c.Line-of.ensures (in_table c.args.from c.requires.0) in
-    let bounded : c.Line-of.result.figures * c.power_of_ten.result ≤ 10 ^ 18 = let s = c in rw c.power_of_ten.ensures (unit_fits s.Line-of.result good) in
+    let good : Good c.line_of-line.result = rw c.line_of-line.ensures (in_table c.args.from c.requires.0) in
+    let bounded : c.line_of-line.result.figures * c.power_of_ten.result ≤ 10 ^ 18 = let s = c in rw c.power_of_ten.ensures (unit_fits s.line_of-line.result good) in
     omega (arith, bounded)
 
 pub returns : goal.returns
 returns c =
-    let good : Good c.Line-of.result = rw c.Line-of.ensures (in_table c.args.from c.requires.0) in
+    let good : Good c.line_of-line.result = rw c.line_of-line.ensures (in_table c.args.from c.requires.0) in
     let p = c in
     let s = p in
     let a = s.args in
-    let l = s.Line-of.result in
+    let l = s.line_of-line.result in
     c.round_half_up.ensures
     ∙ ap₂ (λ (x y : ℕ). rounded_product HalfUp false a.m x (l.figures * y)) p.power_of_ten-parts.ensures p.power_of_ten.ensures
     ∙ either_sign a.negative a.m (power_of_ten (l.places + a.decimals)) (l.figures * power_of_ten l.digits)
     ∙ to_euro_is l good a.decimals s.requires.1 a.negative a.m s.requires.2
-    ∙ ap (λ (x : Line). capped (magnitude_of (to_euro x a.decimals (signed_of a.negative a.m)))) s.Line-of.ensures
+    ∙ ap (λ (x : Line). capped (magnitude_of (to_euro x a.decimals (signed_of a.negative a.m)))) s.line_of-line.ensures

@@ -11,7 +11,7 @@ line_of-requires c = omega
     (arith, c.line_end-end.ensures, line_from c.args.text.now c.args.at.from)
 
 pub returns-then-end-text : goal.returns-then-end-text
-returns-then-end-text c = c.Line-of.ensures ∙ with_newline _ _ _ c.line_end-end.ensures c.if-end-text.true
+returns-then-end-text c = c.line_of.ensures ∙ with_newline _ _ _ c.line_end-end.ensures c.if-end-text.true
 
 pub returns-then-at : goal.returns-then-at
 returns-then-at c = c.last_of.ensures ∙ at_the_end _ _ _ c.line_end-end.ensures c.if-end-text.false c.if-at.true

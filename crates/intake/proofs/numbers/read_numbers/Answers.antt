@@ -11,10 +11,10 @@ pub loop-at-init : goal.loop-at-init
 loop-at-init c = none_taken _ _ _ _
 
 pub shape_of-signs-then-end-word : goal.shape_of-signs-then-end-word
-shape_of-signs-then-end-word c = c.loop-at.invariant.signs-sized
+shape_of-signs-then-end-word c = c.loop-at.invariant.signs_sized
 
 pub shape_of-values-then-end-word : goal.shape_of-values-then-end-word
-shape_of-values-then-end-word c = c.loop-at.invariant.values-sized
+shape_of-values-then-end-word c = c.loop-at.invariant.values_sized
 
 pub returns-then-end-word : goal.returns-then-end-word
 returns-then-end-word c = let l = c in record {
@@ -46,10 +46,10 @@ loop-at-preserved c = let e = c in
     c.take_number.ensures (omega arith) (c.if-not-take_number.false)
 
 pub shape_of-signs : goal.shape_of-signs
-shape_of-signs c = c.loop-at.invariant.signs-sized
+shape_of-signs c = c.loop-at.invariant.signs_sized
 
 pub shape_of-values : goal.shape_of-values
-shape_of-values c = c.loop-at.invariant.values-sized
+shape_of-values c = c.loop-at.invariant.values_sized
 
 pub returns : goal.returns
 returns c = record {

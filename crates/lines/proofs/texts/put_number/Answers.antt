@@ -7,9 +7,9 @@ use Rattle.lines.proofs.texts.put_number.Goals as goal
 pub returns-then-below_zero : goal.returns-then-below_zero
 unfolding text_of
 returns-then-below_zero c =
-    let all = rw (sym c.below_zero.ensures ∙ c.if-below_zero.true) c.put_negative.ensures in record { out_after = all.0; value = all.1 }
+    record { out_after = rw (sym c.below_zero.ensures ∙ c.if-below_zero.true) c.put_negative.ensures.out_after; value = rw (sym c.below_zero.ensures ∙ c.if-below_zero.true) c.put_negative.ensures.value }
 
 pub returns-else-below_zero : goal.returns-else-below_zero
 unfolding text_of
 returns-else-below_zero c =
-    let all = rw (sym c.below_zero.ensures ∙ c.if-below_zero.false) c.put_unsigned.ensures in record { out_after = all.0; value = all.1 }
+    record { out_after = rw (sym c.below_zero.ensures ∙ c.if-below_zero.false) c.put_unsigned.ensures.out_after; value = rw (sym c.below_zero.ensures ∙ c.if-below_zero.false) c.put_unsigned.ensures.value }

@@ -7,8 +7,8 @@ use Rattle.morskebab.proofs.amounts.mkb_currency.Goals as goal
 pub returns : goal.returns
 returns c = let s = c in
     simp (
-      c.Flat-line.ensures,
-      c.Line-of.ensures,
+      c.flat_line.ensures,
+      c.line_of.ensures,
       c.given_currency.ensures,
       to_z-of_z w64 s.args.currency s.ranges.currency,
     )

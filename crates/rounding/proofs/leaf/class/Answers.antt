@@ -74,5 +74,5 @@ pub returns-in-2 : goal.returns-in-2
 returns-in-2 c = sym (ap named c.in-2.is) ∙ by_number c.args.rest c.args.d c.requires
 
 pub returns-in_default : goal.returns-in_default
-returns-in_default c = sym (get_or-eq_default (Exact ∷ Below ∷ Half ∷ []) Above (past_keys 3 _ c.in-0.rest))
+returns-in_default c = sym (get_or-eq_default (Exact ∷ Below ∷ Half ∷ []) Above (past_keys 3 _ c.in_default.in_default-own.rest))
     ∙ by_number c.args.rest c.args.d c.requires

@@ -34,4 +34,4 @@ returns-in-6 c = rw c.in-6.is
 
 pub returns-in_default : goal.returns-in_default
 unfolding bad_mode rule_of choice_of
-returns-in_default c = rw (lt-ltb 6 c.args.mode (past_keys 7 c.args.mode c.in-0.rest))
+returns-in_default c = rw (lt-ltb 6 c.args.mode (past_keys 7 c.args.mode c.in_default.in_default-own.rest))

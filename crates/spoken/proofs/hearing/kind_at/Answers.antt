@@ -9,4 +9,4 @@ pub returns-in-3 : goal.returns-in-3
 returns-in-3 c = rw c.in-3.is
 
 pub returns-in_default : goal.returns-in_default
-returns-in_default c = simp (ne_eqb _ _ c.in-0.rest.0.1, ne_eqb _ _ c.in-0.rest.1)
+returns-in_default c = simp (ne_eqb _ _ c.in_default.in_default-own.rest.0.1, ne_eqb _ _ c.in_default.in_default-own.rest.1)

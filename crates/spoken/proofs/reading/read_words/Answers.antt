@@ -11,10 +11,10 @@ pub loop-at-init : goal.loop-at-init
 loop-at-init c = none_heard _ _ _ _ _ _ c.nothing_heard-heard.ensures
 
 pub shape_of-signs-then-end-word : goal.shape_of-signs-then-end-word
-shape_of-signs-then-end-word c = c.loop-at.invariant.signs-sized
+shape_of-signs-then-end-word c = c.loop-at.invariant.signs_sized
 
 pub shape_of-values-then-end-word : goal.shape_of-values-then-end-word
-shape_of-values-then-end-word c = c.loop-at.invariant.values-sized
+shape_of-values-then-end-word c = c.loop-at.invariant.values_sized
 
 pub returns-then-end-word : goal.returns-then-end-word
 returns-then-end-word c = let w = c in record {
@@ -37,10 +37,10 @@ loop-at-preserved c = let w = c in
     one_heard _ _ _ _ _ _ _ _ _ w.loop-at.invariant _ _ _ _ w.word_from-word.ensures (omega arith) (omega arith) c.hear-step.ensures put.0 put.1
 
 pub shape_of-signs : goal.shape_of-signs
-shape_of-signs c = c.loop-at.invariant.signs-sized
+shape_of-signs c = c.loop-at.invariant.signs_sized
 
 pub shape_of-values : goal.shape_of-values
-shape_of-values c = c.loop-at.invariant.values-sized
+shape_of-values c = c.loop-at.invariant.values_sized
 
 pub returns : goal.returns
 returns c = record {
