@@ -16,7 +16,9 @@ import sys
 WORD = re.compile(r'[^\s(){}.;,@"«»]+')
 QUIET = re.compile(r'--[^\n]*|"(?:[^"\\\n]|\\.)*"')
 DECLARED = re.compile(r"^[ \t]*(?:(?:abbrev|unfoldable|pub|opaque) )*([^\s(){}.;,@\"«»:]+)(?: [^\s(){}.;,@\"«»:=]+)* :(?=\s)", re.M)
-LONG = re.compile(r"^(?:abbrev |unfoldable )*pub ([^\s(){}.;,@\"«»:]+)$", re.M)
+# an answer or an invariant has the name that Rattle makes of the code
+GOAL = re.compile(r"^(?:abbrev )?pub (\S+) : goal\.", re.M)
+LONG = re.compile(r"^ *(?:abbrev |unfoldable )*pub ([^\s(){}.;,@\"«»:]+)$", re.M)
 LET = re.compile(r"\blet ([^\s(){}.;,@\"«»:]+) (?:=|:)")
 PARAMETER = re.compile(r"\b(?:const )?(\w+): ")
 USE = re.compile(r"^(?:pub )?(?:ghost )?use (Rattle\.[^\s{]+?)(?:\.\{([^}]*)\}| as (\S+?))?;?$", re.M)
@@ -90,6 +92,7 @@ def declared(path, text):
     code = bare(text)
     names = set(DECLARED.findall(code)) | set(LONG.findall(code))
     names |= set(LET.findall(code))
+    names -= set(GOAL.findall(code))
     return {n for n in names if n not in ("use", "pub", "mod", "λ")}
 
 

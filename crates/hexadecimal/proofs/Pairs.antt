@@ -26,10 +26,10 @@ module _ (word bytes₀ : List ℕ) (count : ℕ) where
   none_filled = record { inside = omega arith; sized = refl; is = paste-zero bytes₀ 0 (bytes_of word) }
 
   module _ (bytes : List ℕ) (i : ℕ) (f : Filled bytes i) (even : length word ≡ count * 2) (room : count ≤ length bytes₀) where
-    pub one-filled
+    pub one_filled
         : (x : ℕ) → i < count → x ≡ worth_of (get_or word (i * 2) 0) * 16 + worth_of (get_or word (i * 2 + 1) 0)
         → Filled (set bytes i x) (i + 1)
-    one-filled x l e =
+    one_filled x l e =
         let z : 0 + i ≡ i = omega arith in
         let long : length (bytes_of word) ≡ count = bytes_length word count even in
         let byte : x ≡ get_or (bytes_of word) i 0 = e ∙ sym (byte_at word i (omega arith)) in

@@ -26,10 +26,10 @@ module _ (out₀ : List ℕ) (at : ℕ) (bytes : List ℕ) where
     pub two_places : i < length bytes → to + 1 < length out
     two_places l = omega (arith, p.place, p.sized)
 
-    pub two-put
+    pub two_put
         : (high low : ℕ) → i < length bytes → high ≡ digit_of (get_or bytes i 0 / 16) → low ≡ digit_of (get_or bytes i 0 % 16)
         → Put (set (set out to high) (to + 1) low) (to + 2) (i + 1)
-    two-put high low l h e =
+    two_put high low l h e =
         let long : length (digits_of bytes) ≡ length bytes * 2 = digits_length bytes in
         let first : set out to high ≡ paste out₀ at (digits_of bytes) (suc (i * 2)) =
         ap (λ (k : ℕ). set out k high) p.place

@@ -23,9 +23,9 @@ module _ (out : List ℕ) (at : ℕ) (bytes : List ℕ) where
   unfolding hex_of
   digits e = rw (ne_eqb (length bytes) 0 e)
 
-  pub none-shown
+  pub none_shown
       : (out' : List ℕ) (r : ℕ) → length bytes ≡ 0 → (out' ≡ put_at out at (45 ∷ [])) × (r ≡ place_behind out at (45 ∷ [])) → Shown out' r
-  none-shown out' r e h = rw (dash e) h
+  none_shown out' r e h = rw (dash e) h
 
   module _ (some : length bytes ≡ 0 → ⊥) where
     pub no_place : length out < at + length bytes * 2 → Shown out at

@@ -24,11 +24,11 @@ first_asks (b ∷ bs) h = refl
 
 module _ (known : Lead) (bytes : List ℕ) where
   -- what is known after i bytes, and what the others say then
-  pub next-byte
+  pub next_byte
       : (lead after : Lead) (i : ℕ) → i < length bytes → lead_of lead (drop i bytes) ≡ lead_of known bytes → after ≡ lead_after lead (get_or bytes i 0)
       → lead_of after (drop (i + 1) bytes) ≡ lead_of known bytes
   unfolding lead_of
-  next-byte lead after i h e a =
+  next_byte lead after i h e a =
       rw (add-one i, a) (ap (lead_of lead) (sym (drop-cons bytes i 0 h)) ∙ e)
 
   pub no_byte : (lead : Lead) (i : ℕ) → length bytes ≤ i → lead_of lead (drop i bytes) ≡ lead_of known bytes → lead ≡ lead_of known bytes

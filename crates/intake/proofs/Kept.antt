@@ -17,9 +17,9 @@ module _ (text : List ℕ) (from to : ℕ) where
   pub none_moved : text ≡ moved text from 0
   none_moved = fill_none 0 (λ k. get_or text (from + k) 0) text
 
-  pub one-moved
+  pub one_moved
       : (now : List ℕ) (i : ℕ) → now ≡ moved text from i → set now i (get_or now (from + i) 0) ≡ moved text from (i + 1)
-  one-moved now i e =
+  one_moved now i e =
       fill_more 0 (λ k. get_or text (from + k) 0) text now i i (get_or now (from + i) 0) e (omega arith)
       (ap (λ (l : List ℕ). get_or l (from + i) 0) e ∙ filled_behind 0 (λ k. get_or text (from + k) 0) text 0 i (from + i) (omega arith))
 

@@ -71,11 +71,11 @@ module _ (line : List ℕ) (from : ℕ) where
       rw (z, stays count e n more, n)
 
   -- the words up to the first that is no number: they are all the numbers there are
-  pub all-numbers
+  pub all_numbers
       : (count : ℕ) → count ≤ length line → numbers_among line from count ≡ count → is_number (number_behind line from count) ≡ false
       → numbers_in line from ≡ count
   unfolding numbers_in
-  all-numbers count h e n =
+  all_numbers count h e n =
       let z : length line ≡ count + (length line - count) = omega arith in
       ap (numbers_among line from) z ∙ stays count e n (length line - count)
 
@@ -111,9 +111,9 @@ module _ (line : List ℕ) (from : ℕ) where
       next_number word w = rw (w, t.place)
 
       -- it ends behind where reading stands, and within the line
-      pub word-places
+      pub word_places
           : (word : Word) → word ≡ word_from line at → at < length line → word.start < word.end → (at < word.end) × (word.end ≤ length line)
-      word-places word w l s =
+      word_places word w l s =
           let a : at ≤ word.start = rw w (start_from line at) in
           let b : word.end ≤ length line = rw w (end_within line at (omega arith)) in
           (omega arith, b)
@@ -130,7 +130,7 @@ module _ (line : List ℕ) (from : ℕ) where
       unfolding given_of
       no_more h =
           let word = word_behind line from count in
-          let e : numbers_in line from ≡ count = all-numbers count t.few t.numbers (empty_none line word (rw t.place at h)) in
+          let e : numbers_in line from ≡ count = all_numbers count t.few t.numbers (empty_none line word (rw t.place at h)) in
           (rw (e, le-ltb word.start word.end (rw t.place at h)), lists_are e)
 
       pub empty_word : (word : Word) → word ≡ word_from line at → word.end ≤ word.start → Ended (Numbers count)
@@ -151,7 +151,7 @@ module _ (line : List ℕ) (from : ℕ) where
           unfolding behind_words
           one_taken l y =
               let same = next_number word w in
-              let places = word-places word w l s in
+              let places = word_places word w l s in
               let signs_now : signs' ≡ filled 0 (λ k. sign_in (number_behind line from k)) (count + 1) signs₀ =
               rw y at told.1.0
               ∙ fill_more 0 (λ k. sign_in (number_behind line from k)) signs₀ signs count count (sign_in (number_at line word)) t.signs_are (omega arith) (ap sign_in same) in
@@ -176,7 +176,7 @@ module _ (line : List ℕ) (from : ℕ) where
           other_word n =
               let same : word ≡ word_behind line from count = w ∙ ap (word_from line) t.place in
               let e : numbers_in line from ≡ count =
-              all-numbers count t.few t.numbers (ap is_number (sym (next_number word w)) ∙ sym told.0 ∙ n) in (
+              all_numbers count t.few t.numbers (ap is_number (sym (next_number word w)) ∙ sym told.0 ∙ n) in (
                 rw (e, ← same, lt-ltb word.start word.end s),
                 (rw n at told.1.0 ∙ (lists_are e).0, rw n at told.1.1 ∙ (lists_are e).1),
               )

@@ -46,10 +46,10 @@ module _ (line : List ℕ) (at : ℕ) where
   unfolding word_from
   no_space_inside k h l = not-true _ (ends_inside (λ b. not (is_space b)) line (ends is_space line at) k h l)
 
-  pub space-behind
+  pub space_behind
       : at ≤ length line → ((word_from line at).end ≡ length line) ⊎ (is_space (get_or line (word_from line at).end 0) ≡ true)
   unfolding word_from
-  space-behind h = stop is_space line (ends is_space line at) (ends_within is_space line at h)
+  space_behind h = stop is_space line (ends is_space line at) (ends_within is_space line at h)
 
   pub empty_at_end : at ≤ length line → (word_from line at).start ≡ (word_from line at).end → (word_from line at).start ≡ length line
   unfolding word_from

@@ -17,10 +17,10 @@ module _ {A : Type 0} (two : Bool) (front last : A) (place : ℕ) (xs : List A) 
   pub one_put : two ≡ false → (after : List A) → after ≡ set xs place last → after ≡ put_one two front last place xs
   one_put e after is = rw e is
 
-  pub two-put
+  pub two_put
       : two ≡ true → (middle : List A) → middle ≡ set xs place front → (behind : ℕ) → behind ≡ more place 1
       → (after : List A) → after ≡ set middle behind last → after ≡ put_one two front last place xs
-  two-put e middle first behind b after is = rw e (rw (← b, ← first) is)
+  two_put e middle first behind b after is = rw e (rw (← b, ← first) is)
 
 module _ (line : List ℕ) (word : Word) (form : Form) (h : Heard) where
   pub as_text : h.awaited ≡ true → step_of line word form h ≡ text_step h (read_said h.currency (bytes_of line word))

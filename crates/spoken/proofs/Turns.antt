@@ -56,10 +56,10 @@ module _ (line : List ℕ) (form : Form) where
 
     module _ (signs : List Bool) (values : List ℕ) (at : ℕ) (heard : Heard) (s : Stands signs values at heard) where
       -- the word ends behind where reading stands, and within the line
-      pub word-places
+      pub word_places
           : (word : Word) → word ≡ word_from line at → at < length line → word.start < word.end
           → ((word.start ≤ word.end) × (word.end ≤ length line)) × (at < word.end)
-      word-places word w l h =
+      word_places word w l h =
           let a : at ≤ word.start = rw w (start_from line at) in
           let b : word.end ≤ length line = rw w (end_within line at (omega arith)) in
           ((omega arith, b), omega arith)
@@ -78,21 +78,21 @@ module _ (line : List ℕ) (form : Form) where
           ap (turns line form first) z ∙ stays first s.words still (length line - s.words) ∙ s.is in
           (rw all e, (rw all refl, rw all refl))
 
-      pub empty-word
+      pub empty_word_lem
           : (spoken : Spoken) → spoken ≡ spoken_of heard → (word : Word) → word ≡ word_from line at → word.end ≤ word.start → Ended spoken
-      empty-word spoken e word w h = ended spoken e (rw w at h)
+      empty_word_lem spoken e word w h = ended spoken e (rw w at h)
 
       pub line_heard : (spoken : Spoken) → spoken ≡ spoken_of heard → length line ≤ at → Ended spoken
       line_heard spoken e h = ended spoken e (no_word line at h)
 
       -- one word more
-      pub one-heard
+      pub one_heard
           : (word : Word) (step : Step) (signs' : List Bool) (values' : List ℕ) → word ≡ word_from line at → at < length line → word.start < word.end
           → step ≡ step_of line word form heard → signs' ≡ put_signs step heard.count signs → values' ≡ put_magnitudes step heard.count values
           → Stands signs' values' word.end step.next
       unfolding turns turn_of
-      one-heard word step signs' values' w l h is-step is-signs is-values =
-          let places = word-places word w l h in
+      one_heard word step signs' values' w l h is-step is-signs is-values =
+          let places = word_places word w l h in
           let steps : step ≡ step_of line (word_from line at) form heard = is-step ∙ ap (λ (word : Word). step_of line word form heard) w in
           record {
             words = s.words + 1;

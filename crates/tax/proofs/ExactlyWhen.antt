@@ -36,13 +36,13 @@ module _ (split : Rule → Amount → ℕ → Split) (a : Amount) (rate mode : �
   number_given n = rw by_rows (exactly_when (split (rule_of mode) a rate) n rows rises)
 
 module _ (a : Amount) (rate mode n : ℕ) where
-  pub tax-from-net-exactly-when
+  pub tax_from_net_exactly_when
       : ((blamed : ℕ) × (from_net_said a rate mode ≡ refuses n blamed)) ↔ (Holds n (rows from_net a rate mode) × NoneBelow n (rows from_net a rate mode))
-  tax-from-net-exactly-when = number_given from_net a rate mode n
+  tax_from_net_exactly_when = number_given from_net a rate mode n
 
-  pub tax-from-gross-exactly-when
+  pub tax_from_gross_exactly_when
       : ((blamed : ℕ) × (from_gross_said a rate mode ≡ refuses n blamed)) ↔ (Holds n (rows from_gross a rate mode) × NoneBelow n (rows from_gross a rate mode))
-  tax-from-gross-exactly-when = number_given from_gross a rate mode n
+  tax_from_gross_exactly_when = number_given from_gross a rate mode n
 
 -- of the net for a gross: the numbers of what the call takes by the same law, and 15 where no net has the gross
 module _ (gross : Amount) (rate mode : ℕ) (said : Said Split) (allowed : NetSaid gross rate mode said) where

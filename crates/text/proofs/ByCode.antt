@@ -18,11 +18,11 @@ use Rattle.text.specs.Codes.{no_currency, has_code, number_from, number_of, curr
 
 -- the scan from a line on
 module _ (a b c : ℕ) (lines : List Line) (i : ℕ) where
-  pub scan-on
+  pub scan_on
       : i < length lines → has_code a b c (get_or lines i none) ≡ false
       → number_from a b c i (drop i lines) ≡ number_from a b c (i + 1) (drop (i + 1) lines)
   unfolding number_from
-  scan-on h e = rw (drop-cons lines i none h, e, add-one i)
+  scan_on h e = rw (drop-cons lines i none h, e, add-one i)
 
   pub scan_ends : i < length lines → has_code a b c (get_or lines i none) ≡ true → number_from a b c i (drop i lines) ≡ i
   unfolding number_from

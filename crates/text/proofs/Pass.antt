@@ -77,10 +77,10 @@ module _ (currency : Currency) (negative : Bool) (bytes : List ℕ) (end number 
   unfolding rest_said
   rest_refused e = sym (rw e)
 
-  pub rest-made
+  pub rest_made
       : bad_fraction bytes end ≡ false → made_said currency negative (scale_at (length bytes) end) (worth number (fraction_from bytes end)) ≡ rest_said currency negative bytes end number
   unfolding rest_said
-  rest-made e = sym (rw e)
+  rest_made e = sym (rw e)
 
 -- a bad part is a bad shape
 bad_part : (x y z : Bool) → (y || z) ≡ true → (x || (y || z)) ≡ true
@@ -99,11 +99,11 @@ module _ (currency : Currency) (bytes : List ℕ) (start end : ℕ) (known : unk
       (malformed_said currency bytes start end known starts ends
       (bad_part (ltb 20 (length bytes)) (bad_whole bytes start end) (bad_fraction bytes end) (ap (λ (y : Bool). y || bad_fraction bytes end) e)))
 
-  pub rest-is
+  pub rest_is_lem
       : (number : ℕ) → number ≡ worth 0 (digits_from bytes start) → length bytes ≤ 20 → bad_whole bytes start end ≡ false
       → rest_said currency (ltb 0 start) bytes end number ≡ read_said currency bytes
   unfolding bad_shape
-  rest-is number makes short good = by (bad_fraction bytes end) refl
+  rest_is_lem number makes short good = by (bad_fraction bytes end) refl
     where
       number_is : worth number (fraction_from bytes end) ≡ number_at bytes start end
       number_is =
@@ -118,7 +118,7 @@ module _ (currency : Currency) (bytes : List ℕ) (start end : ℕ) (known : unk
           (malformed_said currency bytes start end known starts ends
           (bad_part (ltb 20 (length bytes)) (bad_whole bytes start end) (bad_fraction bytes end) (any (bad_whole bytes start end) (bad_fraction bytes end) e)))
       by false e =
-          sym (rest-made currency (ltb 0 start) bytes end number e)
+          sym (rest_made currency (ltb 0 start) bytes end number e)
           ∙ ap (made_said currency (ltb 0 start) (scale_at (length bytes) end)) number_is
           ∙ shaped_said currency bytes start end known
           (record { starts = starts; ends = ends; good = rw (le-ltb 20 (length bytes) short, good, e) })

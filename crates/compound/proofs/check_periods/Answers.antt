@@ -19,15 +19,24 @@ returns-in-Refused c = let a = c.args in
 
 pub returns-then-negative : goal.returns-then-negative
 returns-then-negative c =
-    let behind-rate : check_of (period_rows c.args.periods c.args.negative c.args.room) ≡ check_of (row Negative c.args.negative ∷ row Room (ltb c.args.room (row_count c.args.periods)) ∷ []) = let a = c.args in front_passed (rate_rows most_periods a.periods) (row Negative a.negative ∷ row Room (ltb a.room (row_count a.periods)) ∷ []) (sym c.check_rate.ensures ∙ c.in-Passed.is) in
+    let behind-rate : check_of (period_rows c.args.periods c.args.negative c.args.room) ≡ check_of (row Negative c.args.negative ∷ row Room (ltb c.args.room (row_count c.args.periods)) ∷ []) =
+    let a = c.args in
+    front_passed (rate_rows most_periods a.periods) (row Negative a.negative ∷ row Room (ltb a.room (row_count a.periods)) ∷ [])
+    (sym c.check_rate.ensures ∙ c.in-Passed.is) in
     sym (behind-rate ∙ simp c.if-negative.true)
 
 pub returns-then-room-periods : goal.returns-then-room-periods
 returns-then-room-periods c =
-    let behind-rate : check_of (period_rows c.args.periods c.args.negative c.args.room) ≡ check_of (row Negative c.args.negative ∷ row Room (ltb c.args.room (row_count c.args.periods)) ∷ []) = let a = c.args in front_passed (rate_rows most_periods a.periods) (row Negative a.negative ∷ row Room (ltb a.room (row_count a.periods)) ∷ []) (sym c.check_rate.ensures ∙ c.in-Passed.is) in
+    let behind-rate : check_of (period_rows c.args.periods c.args.negative c.args.room) ≡ check_of (row Negative c.args.negative ∷ row Room (ltb c.args.room (row_count c.args.periods)) ∷ []) =
+    let a = c.args in
+    front_passed (rate_rows most_periods a.periods) (row Negative a.negative ∷ row Room (ltb a.room (row_count a.periods)) ∷ [])
+    (sym c.check_rate.ensures ∙ c.in-Passed.is) in
     sym (behind-rate ∙ simp (c.if-negative.false, lt-ltb _ _ c.if-room-periods.true))
 
 pub returns-else-room-periods : goal.returns-else-room-periods
 returns-else-room-periods c =
-    let behind-rate : check_of (period_rows c.args.periods c.args.negative c.args.room) ≡ check_of (row Negative c.args.negative ∷ row Room (ltb c.args.room (row_count c.args.periods)) ∷ []) = let a = c.args in front_passed (rate_rows most_periods a.periods) (row Negative a.negative ∷ row Room (ltb a.room (row_count a.periods)) ∷ []) (sym c.check_rate.ensures ∙ c.in-Passed.is) in
+    let behind-rate : check_of (period_rows c.args.periods c.args.negative c.args.room) ≡ check_of (row Negative c.args.negative ∷ row Room (ltb c.args.room (row_count c.args.periods)) ∷ []) =
+    let a = c.args in
+    front_passed (rate_rows most_periods a.periods) (row Negative a.negative ∷ row Room (ltb a.room (row_count a.periods)) ∷ [])
+    (sym c.check_rate.ensures ∙ c.in-Passed.is) in
     sym (behind-rate ∙ simp (c.if-negative.false, le-ltb _ _ c.if-room-periods.false))

@@ -16,28 +16,49 @@ use Rattle.compound.proofs.compound.Goals as goal
 
 pub write-requires : goal.write-requires
 write-requires c =
-    let asked : (c.is_negative-negative.result ≡ negative c.args.principal.coefficient) × (c.magnitude-m.result ≡ magnitude_of c.args.principal.coefficient) = let z = c.args.principal.coefficient in let held : SFits w64 z = search rules in (c.is_negative-negative.ensures ∙ ap negative (to_z-of_z w64 z held), c.magnitude-m.ensures ∙ ap magnitude_of (to_z-of_z w64 z held)) in
-    let checked : c.check.result ≡ check_of (taken c.args.principal c.args.rate c.args.periods c.args.out.now) = let a = c.args in c.check.ensures ∙ ap₂ (λ (s : Bool) (m : ℕ). check_of (taken_rows a.principal.scale m a.principal.currency s a.rate a.periods (length a.out-1.now))) asked.0 asked.1 in
+    let asked : (c.is_negative-negative.result ≡ negative c.args.principal.coefficient) × (c.magnitude-m.result ≡ magnitude_of c.args.principal.coefficient) =
+    let z = c.args.principal.coefficient in
+    let held : SFits w64 z = search rules in
+    (c.is_negative-negative.ensures ∙ ap negative (to_z-of_z w64 z held), c.magnitude-m.ensures ∙ ap magnitude_of (to_z-of_z w64 z held)) in
+    let checked : c.check.result ≡ check_of (taken c.args.principal c.args.rate c.args.periods c.args.out.now) =
+    let a = c.args in
+    c.check.ensures
+    ∙ ap₂ (λ (s : Bool) (m : ℕ). check_of (taken_rows a.principal.scale m a.principal.currency s a.rate a.periods (length a.out.now)))
+    asked.0 asked.1 in
     let k = c in
     let a = k.args in
-    let fit = fits a.principal a.rate a.periods a.out-1.now (sym checked ∙ c.in-Passed.is) in
+    let fit = fits a.principal a.rate a.periods a.out.now (sym checked ∙ c.in-Passed.is) in
     (subst (λ (m : ℕ). Grows m a.rate) (sym asked.1) fit.0, fit.1)
 
 pub returns-in-Refused : goal.returns-in-Refused
 returns-in-Refused c =
-    let asked : (c.is_negative-negative.result ≡ negative c.args.principal.coefficient) × (c.magnitude-m.result ≡ magnitude_of c.args.principal.coefficient) = let z = c.args.principal.coefficient in let held : SFits w64 z = search rules in (c.is_negative-negative.ensures ∙ ap negative (to_z-of_z w64 z held), c.magnitude-m.ensures ∙ ap magnitude_of (to_z-of_z w64 z held)) in
-    let checked : c.check.result ≡ check_of (taken c.args.principal c.args.rate c.args.periods c.args.out.now) = let a = c.args in c.check.ensures ∙ ap₂ (λ (s : Bool) (m : ℕ). check_of (taken_rows a.principal.scale m a.principal.currency s a.rate a.periods (length a.out-1.now))) asked.0 asked.1 in
+    let asked : (c.is_negative-negative.result ≡ negative c.args.principal.coefficient) × (c.magnitude-m.result ≡ magnitude_of c.args.principal.coefficient) =
+    let z = c.args.principal.coefficient in
+    let held : SFits w64 z = search rules in
+    (c.is_negative-negative.ensures ∙ ap negative (to_z-of_z w64 z held), c.magnitude-m.ensures ∙ ap magnitude_of (to_z-of_z w64 z held)) in
+    let checked : c.check.result ≡ check_of (taken c.args.principal c.args.rate c.args.periods c.args.out.now) =
+    let a = c.args in
+    c.check.ensures
+    ∙ ap₂ (λ (s : Bool) (m : ℕ). check_of (taken_rows a.principal.scale m a.principal.currency s a.rate a.periods (length a.out.now)))
+    asked.0 asked.1 in
     let k = c in
     let a = k.args in
-    let all = answers_refused a.principal a.rate a.periods a.out-1.now c.in-Refused.refusal (sym checked ∙ c.in-Refused.is) in record { said = all.0; places = all.1 }
+    let all = answers_refused a.principal a.rate a.periods a.out.now c.in-Refused.refusal (sym checked ∙ c.in-Refused.is) in record { said = all.0; places = all.1 }
 
 pub returns-in-Passed : goal.returns-in-Passed
 returns-in-Passed c =
-    let asked : (c.is_negative-negative.result ≡ negative c.args.principal.coefficient) × (c.magnitude-m.result ≡ magnitude_of c.args.principal.coefficient) = let z = c.args.principal.coefficient in let held : SFits w64 z = search rules in (c.is_negative-negative.ensures ∙ ap negative (to_z-of_z w64 z held), c.magnitude-m.ensures ∙ ap magnitude_of (to_z-of_z w64 z held)) in
-    let checked : c.check.result ≡ check_of (taken c.args.principal c.args.rate c.args.periods c.args.out.now) = let a = c.args in c.check.ensures ∙ ap₂ (λ (s : Bool) (m : ℕ). check_of (taken_rows a.principal.scale m a.principal.currency s a.rate a.periods (length a.out-1.now))) asked.0 asked.1 in
+    let asked : (c.is_negative-negative.result ≡ negative c.args.principal.coefficient) × (c.magnitude-m.result ≡ magnitude_of c.args.principal.coefficient) =
+    let z = c.args.principal.coefficient in
+    let held : SFits w64 z = search rules in
+    (c.is_negative-negative.ensures ∙ ap negative (to_z-of_z w64 z held), c.magnitude-m.ensures ∙ ap magnitude_of (to_z-of_z w64 z held)) in
+    let checked : c.check.result ≡ check_of (taken c.args.principal c.args.rate c.args.periods c.args.out.now) =
+    let a = c.args in
+    c.check.ensures
+    ∙ ap₂ (λ (s : Bool) (m : ℕ). check_of (taken_rows a.principal.scale m a.principal.currency s a.rate a.periods (length a.out.now)))
+    asked.0 asked.1 in
     let k = c in
     let a = k.args in
     let w = c.write in
-    let all = answers_written a.principal a.rate a.periods a.out-1.now w.result w.new.1.1.1.0
+    let all = answers_written a.principal a.rate a.periods a.out.now w.result w.new.out
     (sym checked ∙ c.in-Passed.is)
-    (subst (λ (m : ℕ). Writes m a.rate (row_count a.periods) a.out-1.now w.result w.new.1.1.1.0) asked.1 w.ensures) in record { said = all.0; places = all.1 }
+    (subst (λ (m : ℕ). Writes m a.rate (row_count a.periods) a.out.now w.result w.new.out) asked.1 w.ensures) in record { said = all.0; places = all.1 }

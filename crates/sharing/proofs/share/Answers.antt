@@ -22,31 +22,48 @@ use Rattle.sharing.proofs.share.Goals as goal
 
 pub spread-requires : goal.spread-requires
 spread-requires c =
-    let asked : c.magnitude-m.result ≡ magnitude_of c.args.amount.coefficient = let z = c.args.amount.coefficient in let fits : SFits w64 z = search rules in c.magnitude-m.ensures ∙ ap magnitude_of (to_z-of_z w64 z fits) in
-    let checked : c.check.result ≡ check_of (share_rows c.args.amount c.args.weights.now (length c.args.out.now)) = let a = c.args in c.check.ensures ∙ ap (λ (m : ℕ). check_of (amount_rows a.amount.scale m a.amount.currency ++ list_rows a.weights.now (length a.out-1.now))) asked in
+    let asked : c.magnitude-m.result ≡ magnitude_of c.args.amount.coefficient =
+    let z = c.args.amount.coefficient in
+    let fits : SFits w64 z = search rules in c.magnitude-m.ensures ∙ ap magnitude_of (to_z-of_z w64 z fits) in
+    let checked : c.check.result ≡ check_of (share_rows c.args.amount c.args.weights.now (length c.args.out.now)) =
     let a = c.args in
-    let fits = share_fits a.amount a.weights.now (length a.out-1.now) (sym checked ∙ c.in-Passed.is) in record { m_bound = omega (arith, asked, fits.0); allowed = fits.1 }
+    c.check.ensures
+    ∙ ap (λ (m : ℕ). check_of (amount_rows a.amount.scale m a.amount.currency ++ list_rows a.weights.now (length a.out.now))) asked in
+    let a = c.args in
+    let fits = share_fits a.amount a.weights.now (length a.out.now) (sym checked ∙ c.in-Passed.is) in record { m_bound = omega (arith, asked, fits.0); allowed = fits.1 }
 
 pub returns-in-Refused : goal.returns-in-Refused
 unfolding shared_said
 returns-in-Refused c =
-    let asked : c.magnitude-m.result ≡ magnitude_of c.args.amount.coefficient = let z = c.args.amount.coefficient in let fits : SFits w64 z = search rules in c.magnitude-m.ensures ∙ ap magnitude_of (to_z-of_z w64 z fits) in
-    let checked : c.check.result ≡ check_of (share_rows c.args.amount c.args.weights.now (length c.args.out.now)) = let a = c.args in c.check.ensures ∙ ap (λ (m : ℕ). check_of (amount_rows a.amount.scale m a.amount.currency ++ list_rows a.weights.now (length a.out-1.now))) asked in
+    let asked : c.magnitude-m.result ≡ magnitude_of c.args.amount.coefficient =
+    let z = c.args.amount.coefficient in
+    let fits : SFits w64 z = search rules in c.magnitude-m.ensures ∙ ap magnitude_of (to_z-of_z w64 z fits) in
+    let checked : c.check.result ≡ check_of (share_rows c.args.amount c.args.weights.now (length c.args.out.now)) =
     let a = c.args in
-    let all = lent_refused (share_rows a.amount a.weights.now (length a.out-1.now)) (signed_shares a.amount.coefficient a.weights.now) a.out-1.now c.in-Refused.refusal
+    c.check.ensures
+    ∙ ap (λ (m : ℕ). check_of (amount_rows a.amount.scale m a.amount.currency ++ list_rows a.weights.now (length a.out.now))) asked in
+    let a = c.args in
+    let all = lent_refused (share_rows a.amount a.weights.now (length a.out.now)) (signed_shares a.amount.coefficient a.weights.now) a.out.now c.in-Refused.refusal
     (sym checked ∙ c.in-Refused.is) in record { said = all.0; places = all.1 }
 
 pub returns-in-Passed : goal.returns-in-Passed
 unfolding shared_said
 returns-in-Passed c =
-    let asked : c.magnitude-m.result ≡ magnitude_of c.args.amount.coefficient = let z = c.args.amount.coefficient in let fits : SFits w64 z = search rules in c.magnitude-m.ensures ∙ ap magnitude_of (to_z-of_z w64 z fits) in
-    let checked : c.check.result ≡ check_of (share_rows c.args.amount c.args.weights.now (length c.args.out.now)) = let a = c.args in c.check.ensures ∙ ap (λ (m : ℕ). check_of (amount_rows a.amount.scale m a.amount.currency ++ list_rows a.weights.now (length a.out-1.now))) asked in
-    let sign-asked : c.is_negative.result ≡ negative c.args.amount.coefficient = let z = c.args.amount.coefficient in let fits : SFits w64 z = search rules in c.is_negative.ensures ∙ ap negative (to_z-of_z w64 z fits) in
+    let asked : c.magnitude-m.result ≡ magnitude_of c.args.amount.coefficient =
+    let z = c.args.amount.coefficient in
+    let fits : SFits w64 z = search rules in c.magnitude-m.ensures ∙ ap magnitude_of (to_z-of_z w64 z fits) in
+    let checked : c.check.result ≡ check_of (share_rows c.args.amount c.args.weights.now (length c.args.out.now)) =
     let a = c.args in
-    let all = lent_passed (share_rows a.amount a.weights.now (length a.out-1.now)) (signed_shares a.amount.coefficient a.weights.now) a.out-1.now
-    c.spread.new.1.1.1.0
+    c.check.ensures
+    ∙ ap (λ (m : ℕ). check_of (amount_rows a.amount.scale m a.amount.currency ++ list_rows a.weights.now (length a.out.now))) asked in
+    let sign-asked : c.is_negative.result ≡ negative c.args.amount.coefficient =
+    let z = c.args.amount.coefficient in
+    let fits : SFits w64 z = search rules in c.is_negative.ensures ∙ ap negative (to_z-of_z w64 z fits) in
+    let a = c.args in
+    let all = lent_passed (share_rows a.amount a.weights.now (length a.out.now)) (signed_shares a.amount.coefficient a.weights.now) a.out.now
+    c.spread.new.out
     (sym checked ∙ c.in-Passed.is)
     (c.spread.ensures
-    ∙ put_sign a.amount.coefficient a.weights.now a.out-1.now c.is_negative.result
+    ∙ put_sign a.amount.coefficient a.weights.now a.out.now c.is_negative.result
     c.magnitude-m.result sign-asked
     asked) in record { said = all.0; places = all.1 }

@@ -23,38 +23,44 @@ put count ws front out is = rw (is, holders count ws)
 
 pub slice_bounds-give_all-end : goal.slice_bounds-give_all-end
 slice_bounds-give_all-end c =
-    let fit : (c.args.count ≤ most_vouchers) × Allowed c.args.weights.now (length c.args.out.now) = let a = c.args in vouchers_fit a.count a.weights.now (length a.out-1.now) (sym c.check.ensures ∙ c.in-Passed.is) in
+    let fit : (c.args.count ≤ most_vouchers) × Allowed c.args.weights.now (length c.args.out.now) =
+    let a = c.args in
+    vouchers_fit a.count a.weights.now (length a.out.now) (sym c.check.ensures ∙ c.in-Passed.is) in
     fit.1.fits
 
 pub slice_bounds-give_all-end-in-Passed : goal.slice_bounds-give_all-end-in-Passed
 slice_bounds-give_all-end-in-Passed c =
-    let fit : (c.args.count ≤ most_vouchers) × Allowed c.args.weights.now (length c.args.out.now) = let a = c.args in vouchers_fit a.count a.weights.now (length a.out-1.now) (sym c.check.ensures ∙ c.in-Passed.is) in
+    let fit : (c.args.count ≤ most_vouchers) × Allowed c.args.weights.now (length c.args.out.now) =
+    let a = c.args in
+    vouchers_fit a.count a.weights.now (length a.out.now) (sym c.check.ensures ∙ c.in-Passed.is) in
     sym (length-take-le _ _ fit.1.fits)
 
 pub give_all-requires : goal.give_all-requires
 give_all-requires c =
-    let fit : (c.args.count ≤ most_vouchers) × Allowed c.args.weights.now (length c.args.out.now) = let a = c.args in vouchers_fit a.count a.weights.now (length a.out-1.now) (sym c.check.ensures ∙ c.in-Passed.is) in
+    let fit : (c.args.count ≤ most_vouchers) × Allowed c.args.weights.now (length c.args.out.now) =
+    let a = c.args in
+    vouchers_fit a.count a.weights.now (length a.out.now) (sym c.check.ensures ∙ c.in-Passed.is) in
     let a = c.args in
     let both = fit in
-    let long = length-take-le (length a.weights.now) a.out-1.now both.1.fits in record {
+    let long = length-take-le (length a.weights.now) a.out.now both.1.fits in record {
       count_le_most_vouchers = both.0;
-      allowed = just_enough a.weights.now (length a.out-1.now) _ both.1 long;
+      allowed = just_enough a.weights.now (length a.out.now) _ both.1 long;
       held_len = long;
     }
 
 pub returns-in-Refused : goal.returns-in-Refused
 unfolding vouchers_said
 returns-in-Refused c = let a = c.args in
-    let all = lent_refused (voucher_rows a.count a.weights.now (length a.out-1.now)) (vouchers_of a.count a.weights.now) a.out-1.now c.in-Refused.refusal
+    let all = lent_refused (voucher_rows a.count a.weights.now (length a.out.now)) (vouchers_of a.count a.weights.now) a.out.now c.in-Refused.refusal
     (sym c.check.ensures ∙ c.in-Refused.is) in record { said = all.0; places = all.1 }
 
 pub returns-in-Passed : goal.returns-in-Passed
 unfolding vouchers_said
 returns-in-Passed c = let a = c.args in record {
-  said = (lent_passed (voucher_rows a.count a.weights.now (length a.out-1.now)) (vouchers_of a.count a.weights.now) a.out-1.now _
+  said = (lent_passed (voucher_rows a.count a.weights.now (length a.out.now)) (vouchers_of a.count a.weights.now) a.out.now _
       (sym c.check.ensures ∙ c.in-Passed.is)
-      (put a.count a.weights.now c.give_all.new.1.1.0 a.out-1.now c.give_all.ensures)).0;
-  places = (lent_passed (voucher_rows a.count a.weights.now (length a.out-1.now)) (vouchers_of a.count a.weights.now) a.out-1.now _
+      (put a.count a.weights.now c.give_all.new.held a.out.now c.give_all.ensures)).0;
+  places = (lent_passed (voucher_rows a.count a.weights.now (length a.out.now)) (vouchers_of a.count a.weights.now) a.out.now _
       (sym c.check.ensures ∙ c.in-Passed.is)
-      (put a.count a.weights.now c.give_all.new.1.1.0 a.out-1.now c.give_all.ensures)).1;
+      (put a.count a.weights.now c.give_all.new.held a.out.now c.give_all.ensures)).1;
 }

@@ -18,8 +18,8 @@ use Rattle.amount.proofs.Limits.{sound, read_magnitude}
 use Rattle.amount.proofs.Amount.negate.Goals as goal
 
 -- the rows of an amount
-abbrev rowsOfOne : Amount → List Row
-rowsOfOne a = amount_rows a.scale (magnitude_of a.coefficient) a.currency
+abbrev rows_of_one : Amount → List Row
+rows_of_one a = amount_rows a.scale (magnitude_of a.coefficient) a.currency
 
 -- the amount with a coefficient
 abbrev made : Amount → ℤ → Amount
@@ -28,30 +28,45 @@ made a z = record { currency = a.currency; scale = a.scale; coefficient = z }
 pub opposite-requires : goal.opposite-requires
 opposite-requires c =
     let own : SFits w64 c.args.self.coefficient = search rules in
-    let told : c.check_one.result ≡ check_of (rowsOfOne c.args.self) = let s = c in let a = s.args.self in c.check_one.ensures ∙ ap (λ (m : ℕ). check_of (amount_rows a.scale m a.currency-1)) (read_magnitude a.coefficient c.magnitude.result own c.magnitude.ensures) in
+    let told : c.check_one.result ≡ check_of (rows_of_one c.args.self) =
+    let s = c in
+    let a = s.args.self in
+    c.check_one.ensures
+    ∙ ap (λ (m : ℕ). check_of (amount_rows a.scale m a.currency))
+    (read_magnitude a.coefficient c.magnitude.result own c.magnitude.ensures) in
     let k = c in
     let s = k in
     let a = s.args.self in
     rw (to_z-of_z w64 a.coefficient own)
-    (sound a.scale (magnitude_of a.coefficient) a.currency-1 (sym told ∙ c.in-Passed.is)).within
+    (sound a.scale (magnitude_of a.coefficient) a.currency (sym told ∙ c.in-Passed.is)).within
 
 pub returns-in-Refused : goal.returns-in-Refused
 unfolding negate_said
 returns-in-Refused c =
     let own : SFits w64 c.args.self.coefficient = search rules in
-    let told : c.check_one.result ≡ check_of (rowsOfOne c.args.self) = let s = c in let a = s.args.self in c.check_one.ensures ∙ ap (λ (m : ℕ). check_of (amount_rows a.scale m a.currency-1)) (read_magnitude a.coefficient c.magnitude.result own c.magnitude.ensures) in
+    let told : c.check_one.result ≡ check_of (rows_of_one c.args.self) =
+    let s = c in
+    let a = s.args.self in
+    c.check_one.ensures
+    ∙ ap (λ (m : ℕ). check_of (amount_rows a.scale m a.currency))
+    (read_magnitude a.coefficient c.magnitude.result own c.magnitude.ensures) in
     let k = c in
     let a = k.args.self in
-    sym (refused (gives (made a (neg_ℤ a.coefficient))) (rowsOfOne a) c.in-Refused.refusal (sym told ∙ c.in-Refused.is))
+    sym (refused (gives (made a (neg_ℤ a.coefficient))) (rows_of_one a) c.in-Refused.refusal (sym told ∙ c.in-Refused.is))
 
 pub returns-in-Passed : goal.returns-in-Passed
 unfolding negate_said
 returns-in-Passed c =
     let own : SFits w64 c.args.self.coefficient = search rules in
-    let told : c.check_one.result ≡ check_of (rowsOfOne c.args.self) = let s = c in let a = s.args.self in c.check_one.ensures ∙ ap (λ (m : ℕ). check_of (amount_rows a.scale m a.currency-1)) (read_magnitude a.coefficient c.magnitude.result own c.magnitude.ensures) in
+    let told : c.check_one.result ≡ check_of (rows_of_one c.args.self) =
+    let s = c in
+    let a = s.args.self in
+    c.check_one.ensures
+    ∙ ap (λ (m : ℕ). check_of (amount_rows a.scale m a.currency))
+    (read_magnitude a.coefficient c.magnitude.result own c.magnitude.ensures) in
     let e = c in
     let s = e in
     let a = s.args.self in
     ap (λ (z : ℤ). gives (made a z))
     (read_back c.opposite.result c.opposite.type_inv ∙ rw (to_z-of_z w64 a.coefficient own) at c.opposite.ensures)
-    ∙ sym (passed (gives (made a (neg_ℤ a.coefficient))) (rowsOfOne a) (sym told ∙ e.in-Passed.is))
+    ∙ sym (passed (gives (made a (neg_ℤ a.coefficient))) (rows_of_one a) (sym told ∙ e.in-Passed.is))

@@ -16,7 +16,11 @@ pub ordered-requires : goal.ordered-requires
 ordered-requires c =
     let own : SFits w64 c.args.self.coefficient = search rules in
     let other : SFits w64 c.args.other.coefficient = search rules in
-    let told : let a = c.args in c.check_two.result ≡ check_of (rows_of_two a.self a.other) = let s = c in let m = c.magnitude-m in let n = c.magnitude-n in c.check_two.ensures ∙ read_rows_lem s.args.self s.args.other m.result n.result own other m.ensures n.ensures in
+    let told : let a = c.args in c.check_two.result ≡ check_of (rows_of_two a.self a.other) =
+    let s = c in
+    let m = c.magnitude-m in
+    let n = c.magnitude-n in
+    c.check_two.ensures ∙ read_rows_lem s.args.self s.args.other m.result n.result own other m.ensures n.ensures in
     let e = c in
     let s = e in
     let a = s.args.self in
@@ -31,7 +35,11 @@ unfolding order_said
 returns-in-Refused c =
     let own : SFits w64 c.args.self.coefficient = search rules in
     let other : SFits w64 c.args.other.coefficient = search rules in
-    let told : let a = c.args in c.check_two.result ≡ check_of (rows_of_two a.self a.other) = let s = c in let m = c.magnitude-m in let n = c.magnitude-n in c.check_two.ensures ∙ read_rows_lem s.args.self s.args.other m.result n.result own other m.ensures n.ensures in
+    let told : let a = c.args in c.check_two.result ≡ check_of (rows_of_two a.self a.other) =
+    let s = c in
+    let m = c.magnitude-m in
+    let n = c.magnitude-n in
+    c.check_two.ensures ∙ read_rows_lem s.args.self s.args.other m.result n.result own other m.ensures n.ensures in
     let k = c in
     let a = k.args in
     sym
@@ -43,7 +51,11 @@ unfolding order_said
 returns-in-Passed c =
     let own : SFits w64 c.args.self.coefficient = search rules in
     let other : SFits w64 c.args.other.coefficient = search rules in
-    let told : let a = c.args in c.check_two.result ≡ check_of (rows_of_two a.self a.other) = let s = c in let m = c.magnitude-m in let n = c.magnitude-n in c.check_two.ensures ∙ read_rows_lem s.args.self s.args.other m.result n.result own other m.ensures n.ensures in
+    let told : let a = c.args in c.check_two.result ≡ check_of (rows_of_two a.self a.other) =
+    let s = c in
+    let m = c.magnitude-m in
+    let n = c.magnitude-n in
+    c.check_two.ensures ∙ read_rows_lem s.args.self s.args.other m.result n.result own other m.ensures n.ensures in
     let e = c in
     let s = e in
     let a = s.args.self in

@@ -23,12 +23,18 @@ pub total-requires : goal.total-requires
 total-requires c =
     let own : SFits w64 c.args.self.coefficient = search rules in
     let other : SFits w64 c.args.other.coefficient = search rules in
-    let told : let a = c.args in c.check_two.result ≡ check_of (rows_of_two a.self a.other) = let s = c in let a = s.args.self in let b = s.args.other in let m = c.magnitude-m in let n = c.magnitude-n in c.check_two.ensures ∙ read_rows_lem a b m.result n.result own other m.ensures n.ensures in
+    let told : let a = c.args in c.check_two.result ≡ check_of (rows_of_two a.self a.other) =
+    let s = c in
+    let a = s.args.self in
+    let b = s.args.other in
+    let m = c.magnitude-m in
+    let n = c.magnitude-n in
+    c.check_two.ensures ∙ read_rows_lem a b m.result n.result own other m.ensures n.ensures in
     let e = c in
     let s = e in
     let a = s.args.self in
     let b = s.args.other in
-    let limits = pair a.scale b.scale (magnitude_of a.coefficient) (magnitude_of b.coefficient) a.currency-1 b.currency-1
+    let limits = pair a.scale b.scale (magnitude_of a.coefficient) (magnitude_of b.coefficient) a.currency b.currency
     (sym told ∙ e.in-Passed.is) in
     (limits.first.scaled, limits.second.scaled)
 
@@ -37,7 +43,13 @@ unfolding sum_said
 returns-in-Refused c =
     let own : SFits w64 c.args.self.coefficient = search rules in
     let other : SFits w64 c.args.other.coefficient = search rules in
-    let told : let a = c.args in c.check_two.result ≡ check_of (rows_of_two a.self a.other) = let s = c in let a = s.args.self in let b = s.args.other in let m = c.magnitude-m in let n = c.magnitude-n in c.check_two.ensures ∙ read_rows_lem a b m.result n.result own other m.ensures n.ensures in
+    let told : let a = c.args in c.check_two.result ≡ check_of (rows_of_two a.self a.other) =
+    let s = c in
+    let a = s.args.self in
+    let b = s.args.other in
+    let m = c.magnitude-m in
+    let n = c.magnitude-n in
+    c.check_two.ensures ∙ read_rows_lem a b m.result n.result own other m.ensures n.ensures in
     let k = c in
     let a = k.args in
     sym
@@ -49,7 +61,13 @@ unfolding sum_said
 returns-in-Passed c =
     let own : SFits w64 c.args.self.coefficient = search rules in
     let other : SFits w64 c.args.other.coefficient = search rules in
-    let told : let a = c.args in c.check_two.result ≡ check_of (rows_of_two a.self a.other) = let s = c in let a = s.args.self in let b = s.args.other in let m = c.magnitude-m in let n = c.magnitude-n in c.check_two.ensures ∙ read_rows_lem a b m.result n.result own other m.ensures n.ensures in
+    let told : let a = c.args in c.check_two.result ≡ check_of (rows_of_two a.self a.other) =
+    let s = c in
+    let a = s.args.self in
+    let b = s.args.other in
+    let m = c.magnitude-m in
+    let n = c.magnitude-n in
+    c.check_two.ensures ∙ read_rows_lem a b m.result n.result own other m.ensures n.ensures in
     let g = c in
     let k = g in
     let s = k in
@@ -59,11 +77,11 @@ returns-in-Passed c =
     read_back c.total.result c.total.type_inv
     ∙ rw (to_z-of_z w64 a.coefficient own, to_z-of_z w64 b.coefficient other) at c.total.ensures in
     let clear = sym told ∙ g.in-Passed.is in
-    let limits = pair a.scale b.scale (magnitude_of a.coefficient) (magnitude_of b.coefficient) a.currency-1 b.currency-1 clear in
+    let limits = pair a.scale b.scale (magnitude_of a.coefficient) (magnitude_of b.coefficient) a.currency b.currency clear in
     let u = raised_to (greater_scale a b) a in
     let v = raised_to (greater_scale a b) b in
     c.within.ensures
-    ∙ ap₂ (λ (scale : ℕ) (z : ℤ). limited z (record { currency = a.currency-1; scale = scale; coefficient = z })) g.greater.ensures sum
-    ∙ stands_limited (λ (z : ℤ). record { currency = a.currency-1; scale = greater_scale a b; coefficient = z }) (nearer u +ℤ nearer v) (total a b)
+    ∙ ap₂ (λ (scale : ℕ) (z : ℤ). limited z (record { currency = a.currency; scale = scale; coefficient = z })) g.greater.ensures sum
+    ∙ stands_limited (λ (z : ℤ). record { currency = a.currency; scale = greater_scale a b; coefficient = z }) (nearer u +ℤ nearer v) (total a b)
     (both_stand u v (one_near a.coefficient b.coefficient a.scale b.scale limits.first.within limits.second.within))
     ∙ sym (passed (limited (total a b) (made a b)) (rows_of_two a b) clear)

@@ -13,12 +13,18 @@ use Rattle.amount.proofs.checks.within.Goals as goal
 
 pub returns-then-magnitude-gt-L : goal.returns-then-magnitude-gt-L
 returns-then-magnitude-gt-L c =
-    let asked : c.magnitude.result ≡ magnitude_of c.args.amount.coefficient = let z = c.args.amount.coefficient in let fits : SFits w64 z = search rules in c.magnitude.ensures ∙ ap magnitude_of (to_z-of_z w64 z fits) in
+    let asked : c.magnitude.result ≡ magnitude_of c.args.amount.coefficient =
+    let z = c.args.amount.coefficient in
+    let fits : SFits w64 z = search rules in
+    c.magnitude.ensures ∙ ap magnitude_of (to_z-of_z w64 z fits) in
     let z = c.args.amount.coefficient in
     let over : largest < magnitude_of z = omega (arith, asked, c.if-magnitude-gt-L.true) in rw (lt-ltb largest (magnitude_of z) over)
 
 pub returns-else-magnitude-gt-L : goal.returns-else-magnitude-gt-L
 returns-else-magnitude-gt-L c =
-    let asked : c.magnitude.result ≡ magnitude_of c.args.amount.coefficient = let z = c.args.amount.coefficient in let fits : SFits w64 z = search rules in c.magnitude.ensures ∙ ap magnitude_of (to_z-of_z w64 z fits) in
+    let asked : c.magnitude.result ≡ magnitude_of c.args.amount.coefficient =
+    let z = c.args.amount.coefficient in
+    let fits : SFits w64 z = search rules in
+    c.magnitude.ensures ∙ ap magnitude_of (to_z-of_z w64 z fits) in
     let z = c.args.amount.coefficient in
     let fits : magnitude_of z ≤ largest = omega (arith, asked, c.if-magnitude-gt-L.false) in rw (le-ltb largest (magnitude_of z) fits)

@@ -36,17 +36,27 @@ asked a t z = limited z (made a t z)
 pub moved-requires : goal.moved-requires
 moved-requires c =
     let own : SFits w64 c.args.amount.coefficient = search rules in
-    let told : let a = c.args in c.check.result ≡ check_of (rows_at a.amount a.scale) = let s = c in let a = s.args.amount in c.check.ensures ∙ ap (λ (m : ℕ). check_of (rescale_rows a.scale s.args.scale m a.currency-1)) (read_magnitude a.coefficient c.magnitude-m.result own c.magnitude-m.ensures) in
+    let told : let a = c.args in c.check.result ≡ check_of (rows_at a.amount a.scale) =
+    let s = c in
+    let a = s.args.amount in
+    c.check.ensures
+    ∙ ap (λ (m : ℕ). check_of (rescale_rows a.scale s.args.scale m a.currency))
+    (read_magnitude a.coefficient c.magnitude-m.result own c.magnitude-m.ensures) in
     let k = c in
     let s = k in
     let a = s.args.amount in
-    let limits = rescalable a.scale s.args.scale (magnitude_of a.coefficient) a.currency-1 (sym told ∙ c.in-Passed.is) in
+    let limits = rescalable a.scale s.args.scale (magnitude_of a.coefficient) a.currency (sym told ∙ c.in-Passed.is) in
     rw (to_z-of_z w64 a.coefficient own) (limits.0.within, limits.0.scaled, limits.1)
 
 pub returns-in-Refused : goal.returns-in-Refused
 returns-in-Refused c =
     let own : SFits w64 c.args.amount.coefficient = search rules in
-    let told : let a = c.args in c.check.result ≡ check_of (rows_at a.amount a.scale) = let s = c in let a = s.args.amount in c.check.ensures ∙ ap (λ (m : ℕ). check_of (rescale_rows a.scale s.args.scale m a.currency-1)) (read_magnitude a.coefficient c.magnitude-m.result own c.magnitude-m.ensures) in
+    let told : let a = c.args in c.check.result ≡ check_of (rows_at a.amount a.scale) =
+    let s = c in
+    let a = s.args.amount in
+    c.check.ensures
+    ∙ ap (λ (m : ℕ). check_of (rescale_rows a.scale s.args.scale m a.currency))
+    (read_magnitude a.coefficient c.magnitude-m.result own c.magnitude-m.ensures) in
     let k = c in
     let s = k in
     let a = s.args.amount in
@@ -58,7 +68,12 @@ pub returns-in-Passed : goal.returns-in-Passed
 unfolding rescaled
 returns-in-Passed c =
     let own : SFits w64 c.args.amount.coefficient = search rules in
-    let told : let a = c.args in c.check.result ≡ check_of (rows_at a.amount a.scale) = let s = c in let a = s.args.amount in c.check.ensures ∙ ap (λ (m : ℕ). check_of (rescale_rows a.scale s.args.scale m a.currency-1)) (read_magnitude a.coefficient c.magnitude-m.result own c.magnitude-m.ensures) in
+    let told : let a = c.args in c.check.result ≡ check_of (rows_at a.amount a.scale) =
+    let s = c in
+    let a = s.args.amount in
+    c.check.ensures
+    ∙ ap (λ (m : ℕ). check_of (rescale_rows a.scale s.args.scale m a.currency))
+    (read_magnitude a.coefficient c.magnitude-m.result own c.magnitude-m.ensures) in
     let e = c in
     let s = e in
     let a = s.args.amount in

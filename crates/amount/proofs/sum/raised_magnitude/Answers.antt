@@ -9,29 +9,44 @@ use Rattle.currency.proofs.Tables.{power_of_ten_lem}
 use Rattle.amount.specs.Raising.{far, nearest}
 use Rattle.amount.proofs.sum.raised_magnitude.Goals as goal
 
+far_within : (m tens : ℕ) → 0 < tens → m ≤ far / tens → m * tens ≤ far
+far_within m tens some l = (le-div_iff_mul-le some).0 l
+
 pub nonzero_div-tens : goal.nonzero_div-tens
 nonzero_div-tens c =
-    let tens-are : (c.power_of_ten-tens.result ≡ 10 ^ c.args.places) × (0 < c.power_of_ten-tens.result) = let k = c.args.places in let is = c.power_of_ten-tens.ensures ∙ power_of_ten_lem k (omega arith) in (is, omega (arith, is, one-le-pow k 10 (omega arith))) in
-    tens-are.1
+    let tens_are : (c.power_of_ten-tens.result ≡ 10 ^ c.args.places) × (0 < c.power_of_ten-tens.result) =
+    let k = c.args.places in
+    let is = c.power_of_ten-tens.ensures ∙ power_of_ten_lem k (omega arith) in
+    (is, omega (arith, is, one-le-pow k 10 (omega arith))) in
+    tens_are.1
 
 pub overflow_mul-result : goal.overflow_mul-result
 overflow_mul-result c =
-    let tens-are : (c.power_of_ten-tens.result ≡ 10 ^ c.args.places) × (0 < c.power_of_ten-tens.result) = let k = c.args.places in let is = c.power_of_ten-tens.ensures ∙ power_of_ten_lem k (omega arith) in (is, omega (arith, is, one-le-pow k 10 (omega arith))) in
-    let within : c.args.m * c.power_of_ten-tens.result ≤ far = let m = c.args.m in let tens = c.power_of_ten-tens.result in go m tens tens-are.1 c.if-tens-m.false where go : (m tens : ℕ) → 0 < tens → m ≤ far / tens → m * tens ≤ far go m tens some l = (le-div_iff_mul-le some).0 l in
+    let tens_are : (c.power_of_ten-tens.result ≡ 10 ^ c.args.places) × (0 < c.power_of_ten-tens.result) =
+    let k = c.args.places in
+    let is = c.power_of_ten-tens.ensures ∙ power_of_ten_lem k (omega arith) in
+    (is, omega (arith, is, one-le-pow k 10 (omega arith))) in
+    let within : c.args.m * c.power_of_ten-tens.result ≤ far = far_within c.args.m c.power_of_ten-tens.result tens_are.1 c.if-tens-m.false in
     record { fits = omega (arith, within) }
 
 pub returns-then-tens-m : goal.returns-then-tens-m
 returns-then-tens-m c =
-    let tens-are : (c.power_of_ten-tens.result ≡ 10 ^ c.args.places) × (0 < c.power_of_ten-tens.result) = let k = c.args.places in let is = c.power_of_ten-tens.ensures ∙ power_of_ten_lem k (omega arith) in (is, omega (arith, is, one-le-pow k 10 (omega arith))) in
+    let tens_are : (c.power_of_ten-tens.result ≡ 10 ^ c.args.places) × (0 < c.power_of_ten-tens.result) =
+    let k = c.args.places in
+    let is = c.power_of_ten-tens.ensures ∙ power_of_ten_lem k (omega arith) in
+    (is, omega (arith, is, one-le-pow k 10 (omega arith))) in
     let m = c.args.m in
     let tens = c.power_of_ten-tens.result in
-    let more : far < m * tens = (div-lt_iff_lt-mul tens-are.1).0 c.if-tens-m.true in
-    sym (ap (λ (x : ℕ). nearest (m * x)) (sym tens-are.0) ∙ rw (lt-ltb far (m * tens) more))
+    let more : far < m * tens = (div-lt_iff_lt-mul tens_are.1).0 c.if-tens-m.true in
+    sym (ap (λ (x : ℕ). nearest (m * x)) (sym tens_are.0) ∙ rw (lt-ltb far (m * tens) more))
 
 pub returns-else-tens-m : goal.returns-else-tens-m
 returns-else-tens-m c =
-    let tens-are : (c.power_of_ten-tens.result ≡ 10 ^ c.args.places) × (0 < c.power_of_ten-tens.result) = let k = c.args.places in let is = c.power_of_ten-tens.ensures ∙ power_of_ten_lem k (omega arith) in (is, omega (arith, is, one-le-pow k 10 (omega arith))) in
-    let within : c.args.m * c.power_of_ten-tens.result ≤ far = let m = c.args.m in let tens = c.power_of_ten-tens.result in go m tens tens-are.1 c.if-tens-m.false where go : (m tens : ℕ) → 0 < tens → m ≤ far / tens → m * tens ≤ far go m tens some l = (le-div_iff_mul-le some).0 l in
+    let tens_are : (c.power_of_ten-tens.result ≡ 10 ^ c.args.places) × (0 < c.power_of_ten-tens.result) =
+    let k = c.args.places in
+    let is = c.power_of_ten-tens.ensures ∙ power_of_ten_lem k (omega arith) in
+    (is, omega (arith, is, one-le-pow k 10 (omega arith))) in
+    let within : c.args.m * c.power_of_ten-tens.result ≤ far = far_within c.args.m c.power_of_ten-tens.result tens_are.1 c.if-tens-m.false in
     let m = c.args.m in
     let tens = c.power_of_ten-tens.result in
-    sym (ap (λ (x : ℕ). nearest (m * x)) (sym tens-are.0) ∙ rw (le-ltb far (m * tens) within))
+    sym (ap (λ (x : ℕ). nearest (m * x)) (sym tens_are.0) ∙ rw (le-ltb far (m * tens) within))

@@ -14,37 +14,39 @@ use Rattle.book.specs.Checks.{breaks_by, Ready}
 use Rattle.book.proofs.CardAnswered.{card_ready, card_refused, card_passed}
 use Rattle.book.proofs.Book.card.Goals as goal
 
--- the check's answer, by the one test of the new weights
-module _ (c : goal.After-check) where
-  abbrev the-book : Book
-  the-book = c.before.before.before.before.args.self
-
-  abbrev weights : List ℕ
-  weights = c.before.before.before.before.args.weights.now
-
-  checked : c.check.result ≡ check_of (listed_rows the-book (breaks_by the-book.count the-book.card weights) false)
-  checked = c.check.ensures ∙ ap (λ (x : Bool). check_of (listed_rows the-book x false)) c.before.breaks.ensures
-
 pub placed-requires : goal.placed-requires
 placed-requires c =
-    let passed : check_of (listed_rows (the-book c) (breaks_by (the-book c).count (the-book c).card (weights c)) false) ≡ Passed = sym (checked c) ∙ c.in-Passed.is in
-    let ready : Ready (the-book c) × (length (weights c) ≤ partners) = card_ready (the-book c) (weights c) passed in
+    let the-book : Book = c.args.self in
+    let weights : List ℕ = c.args.weights.now in
+    let checked : c.check.result ≡ check_of (listed_rows the-book false) = c.check.ensures ∙ ap (λ (x : Bool). check_of (listed_rows the-book false)) c.breaks-broken.ensures in
+    let passed : check_of (listed_rows the-book (breaks_by the-book.count the-book.card weights) false) ≡ Passed = sym checked ∙ c.in-Passed.is in
+    let ready : Ready the-book × (length weights ≤ partners) = card_ready the-book weights passed in
     ready.1
 
 pub next_card-next-requires : goal.next_card-next-requires
 next_card-next-requires c =
-    let passed : check_of (listed_rows (the-book c) (breaks_by (the-book c).count (the-book c).card (weights c)) false) ≡ Passed = sym (checked c) ∙ c.in-Passed.is in
-    let ready : Ready (the-book c) × (length (weights c) ≤ partners) = card_ready (the-book c) (weights c) passed in
+    let the-book : Book = c.args.self in
+    let weights : List ℕ = c.args.weights.now in
+    let checked : c.check.result ≡ check_of (listed_rows the-book false) = c.check.ensures ∙ ap (λ (x : Bool). check_of (listed_rows the-book false)) c.breaks-broken.ensures in
+    let passed : check_of (listed_rows the-book (breaks_by the-book.count the-book.card weights) false) ≡ Passed = sym checked ∙ c.in-Passed.is in
+    let ready : Ready the-book × (length weights ≤ partners) = card_ready the-book weights passed in
     ready.0
 
 pub returns-in-Refused : goal.returns-in-Refused
-returns-in-Refused c = let s = c in
-    card_refused (the-book s) (weights s) c.in-Refused.refusal (sym (checked s) ∙ c.in-Refused.is)
+returns-in-Refused c =
+    let the-book : Book = c.args.self in
+    let weights : List ℕ = c.args.weights.now in
+    let checked : c.check.result ≡ check_of (listed_rows the-book false) = c.check.ensures ∙ ap (λ (x : Bool). check_of (listed_rows the-book false)) c.breaks-broken.ensures in
+    let s = c in
+    card_refused the-book weights c.in-Refused.refusal (sym checked ∙ c.in-Refused.is)
 
 pub returns-in-Passed : goal.returns-in-Passed
 unfolding new_card
 returns-in-Passed c =
-    let passed : check_of (listed_rows (the-book c) (breaks_by (the-book c).count (the-book c).card (weights c)) false) ≡ Passed = sym (checked c) ∙ c.in-Passed.is in
+    let the-book : Book = c.args.self in
+    let weights : List ℕ = c.args.weights.now in
+    let checked : c.check.result ≡ check_of (listed_rows the-book false) = c.check.ensures ∙ ap (λ (x : Bool). check_of (listed_rows the-book false)) c.breaks-broken.ensures in
+    let passed : check_of (listed_rows the-book (breaks_by the-book.count the-book.card weights) false) ≡ Passed = sym checked ∙ c.in-Passed.is in
     let told = c in
     let s = told in
-    card_passed (the-book s) (weights s) c.next_card-next.result passed (c.next_card-next.ensures ∙ ap (card_with (the-book s)) c.placed.ensures)
+    card_passed the-book weights c.next_card-next.result passed (c.next_card-next.ensures ∙ ap (card_with the-book) c.placed.ensures)

@@ -36,7 +36,10 @@ told-rows b past broken short tells =
 
 pub returns-in-Refused : goal.returns-in-Refused
 returns-in-Refused c =
-    let first : c.check_front.result ≡ check_of (front c.args.self c.past_in-past.result) = let b = c.args.self in let past = c.past_in-past.result in c.check_front.ensures ∙ ap (λ (n : ℕ). check_of (front_rows n past.over past.full b.currency)) c.net_of.ensures in
+    let first : c.check_front.result ≡ check_of (front c.args.self c.past_in-past.result) =
+    let b = c.args.self in
+    let past = c.past_in-past.result in
+    c.check_front.ensures ∙ ap (λ (n : ℕ). check_of (front_rows n past.over past.full b.currency)) c.net_of.ensures in
     let s = c in
     let p = s in
     let a = p.args in
@@ -45,7 +48,10 @@ returns-in-Refused c =
 
 pub returns-in-Passed : goal.returns-in-Passed
 returns-in-Passed c =
-    let first : c.check_front.result ≡ check_of (front c.args.self c.past_in-past.result) = let b = c.args.self in let past = c.past_in-past.result in c.check_front.ensures ∙ ap (λ (n : ℕ). check_of (front_rows n past.over past.full b.currency)) c.net_of.ensures in
+    let first : c.check_front.result ≡ check_of (front c.args.self c.past_in-past.result) =
+    let b = c.args.self in
+    let past = c.past_in-past.result in
+    c.check_front.ensures ∙ ap (λ (n : ℕ). check_of (front_rows n past.over past.full b.currency)) c.net_of.ensures in
     let s = c in
     let p = s in
     let a = p.args in

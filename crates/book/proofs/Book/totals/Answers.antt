@@ -21,4 +21,4 @@ returns-in-Passed c =
     let b = told.args.self in
     let fit = book_fit b passed in
     totals_passed b c.totals_at-totals.result passed
-    (c.totals_at-totals.ensures ∙ totals_are b.weights-1 fit.1 fit.2 _ ∙ ap (totals b.weights-1) c.net_of.ensures)
+    (c.totals_at-totals.ensures ∙ totals_are b.weights fit.1 fit.2 _ ∙ ap (totals b.weights) c.net_of.ensures)

@@ -16,6 +16,10 @@ use Rattle.whole.proofs.Lists.{fill_none, fill_more}
 use Rattle.book.specs.Checks.{added_by}
 use Rattle.book.proofs.cards.grown.Given as goal
 
+-- what the loop stores at a place
+abbrev pub added : List ℤ → List ℕ → ℕ → ℤ
+added zs ts i = pos (magnitude_of (get_or zs i (pos 0)) + get_or ts i 0)
+
 abbrev pub invariant-loop-i : goal.invariant-loop-i
 invariant-loop-i l = (l.i ≤ 16) × (l.grown ≡ filled 0 (added l.settled l.totals) l.i l.settled)
 

@@ -43,7 +43,11 @@ told-rows b past a tells =
 
 pub returns-in-Refused : goal.returns-in-Refused
 returns-in-Refused c =
-    let front : c.check_given.result ≡ check_of (given c.args.book c.args.past c.args.amount) = let a = c.args in c.check_given.ensures ∙ ap₂ (λ (m n : ℕ). check_of (given_rows a.amount.scale m a.amount.currency n a.past.over a.past.full a.book.currency)) c.units_of-units.ensures c.net_of-net.ensures in
+    let front : c.check_given.result ≡ check_of (given c.args.book c.args.past c.args.amount) =
+    let a = c.args in
+    c.check_given.ensures
+    ∙ ap₂ (λ (m n : ℕ). check_of (given_rows a.amount.scale m a.amount.currency n a.past.over a.past.full a.book.currency))
+    c.units_of-units.ensures c.net_of-net.ensures in
     let s = c in
     let t = s in
     let a = t.args in
@@ -54,7 +58,11 @@ pub returns-in-Passed : goal.returns-in-Passed
 returns-in-Passed c =
     let amount-fits : SFits w64 c.args.amount.coefficient = search rules in
     let net-fits : SFits w64 c.args.book.net = search rules in
-    let front : c.check_given.result ≡ check_of (given c.args.book c.args.past c.args.amount) = let a = c.args in c.check_given.ensures ∙ ap₂ (λ (m n : ℕ). check_of (given_rows a.amount.scale m a.amount.currency n a.past.over a.past.full a.book.currency)) c.units_of-units.ensures c.net_of-net.ensures in
+    let front : c.check_given.result ≡ check_of (given c.args.book c.args.past c.args.amount) =
+    let a = c.args in
+    c.check_given.ensures
+    ∙ ap₂ (λ (m n : ℕ). check_of (given_rows a.amount.scale m a.amount.currency n a.past.over a.past.full a.book.currency))
+    c.units_of-units.ensures c.net_of-net.ensures in
     let told = c in
     let s = told in
     let t = s in

@@ -22,31 +22,26 @@ use Rattle.book.proofs.checks.check_post.Goals as goal
 abbrev last : Book → Amount → List Row
 last b a = row Limit (over_l (settled_sum b + (net_of b + units_of a))) ∷ []
 
--- the call's parts, where rows 2 to 10 passed: the sum that is told is that of the settled totals
-module _ (c : goal.After-units_of) where
-  abbrev the-book : Book
-  the-book = c.before.before.before.before.before.before.args.book
-
-  abbrev the-amount : Amount
-  the-amount = c.before.before.before.before.before.before.args.amount
-
-  fit : Fit the-book the-amount
-  fit = move_fit the-book the-amount (passed c.before.before)
-
-  sum : c.before.before.before.before.before.past-in.result.sum ≡ settled_sum the-book
-  sum = c.before.before.before.before.before.past-in.ensures.sum ∙ ap (λ (x : Bool). cond x 0 (settled_sum the-book)) fit.over
-
-  made : c.before.before.before.before.before.past-in.result.sum + (c.before.net-of.result + c.units_of.result) ≡ settled_sum the-book + (net_of the-book + units_of the-amount)
-  made = ap₂ ◌+◌ sum (ap₂ ◌+◌ c.before.net-of.ensures c.units_of.ensures)
-
 pub check_move-requires : goal.check_move-requires
 check_move-requires c = c.past_in-past.ensures
 
 pub overflow_add-net_of : goal.overflow_add-net_of
-overflow_add-net_of c = let f = fit c in omega (arith, c.net_of.ensures, c.units_of.ensures)
+overflow_add-net_of c =
+    let passed : check_of (move_rows c.args.book c.args.amount) ≡ Passed = sym c.check_move.ensures ∙ c.in-Passed.is in
+    let the-book : Book = c.args.book in
+    let the-amount : Amount = c.args.amount in
+    let fit : Fit the-book = move_fit the-book passed in
+    let f = fit in omega (arith, c.net_of.ensures, c.units_of.ensures)
 
 pub overflow_add-settled : goal.overflow_add-settled
-overflow_add-settled c = let f = fit c in omega (arith, made c)
+overflow_add-settled c =
+    let passed : check_of (move_rows c.args.book c.args.amount) ≡ Passed = sym c.check_move.ensures ∙ c.in-Passed.is in
+    let the-book : Book = c.args.book in
+    let the-amount : Amount = c.args.amount in
+    let fit : Fit the-book = move_fit the-book passed in
+    let sum : c.past_in-past.result.sum ≡ settled_sum the-book = c.past_in-past.ensures.sum ∙ ap (λ (x : Bool). cond x 0 (settled_sum the-book)) fit in
+    let made : c.past_in-past.result.sum + (c.net_of.result + c.units_of.result) ≡ settled_sum the-book (net_of the-book units_of the-amount) = ap₂ ◌+◌ sum in
+    let f = fit in omega (arith, made)
 
 pub returns-in-Refused : goal.returns-in-Refused
 returns-in-Refused c = let s = c in
@@ -56,19 +51,29 @@ returns-in-Refused c = let s = c in
 pub returns-then-settled-net_of-gt-L : goal.returns-then-settled-net_of-gt-L
 returns-then-settled-net_of-gt-L c =
     let passed : check_of (move_rows c.args.book c.args.amount) ≡ Passed = sym c.check_move.ensures ∙ c.in-Passed.is in
+    let the-book : Book = c.args.book in
+    let the-amount : Amount = c.args.amount in
+    let fit : Fit the-book = move_fit the-book passed in
+    let sum : c.past_in-past.result.sum ≡ settled_sum the-book = c.past_in-past.ensures.sum ∙ ap (λ (x : Bool). cond x 0 (settled_sum the-book)) fit in
+    let made : c.past_in-past.result.sum + (c.net_of.result + c.units_of.result) ≡ settled_sum the-book (net_of the-book units_of the-amount) = ap₂ ◌+◌ sum in
     let u = c in
-    let b = the-book u in
-    let a = the-amount u in
-    let over : largest < settled_sum b + (net_of b + units_of a) = omega (arith, made u, c.if-settled-net_of-gt-L.true) in
+    let b = the-book in
+    let a = the-amount in
+    let over : largest < settled_sum b + (net_of b + units_of a) = omega (arith, made, c.if-settled-net_of-gt-L.true) in
     sym (front_passed (move_rows b a) (last b a) passed
     ∙ ap (λ (s : Bool). check_of (row Limit s ∷ [])) (lt-ltb largest (settled_sum b + (net_of b + units_of a)) over))
 
 pub returns-else-settled-net_of-gt-L : goal.returns-else-settled-net_of-gt-L
 returns-else-settled-net_of-gt-L c =
     let passed : check_of (move_rows c.args.book c.args.amount) ≡ Passed = sym c.check_move.ensures ∙ c.in-Passed.is in
+    let the-book : Book = c.args.book in
+    let the-amount : Amount = c.args.amount in
+    let fit : Fit the-book = move_fit the-book passed in
+    let sum : c.past_in-past.result.sum ≡ settled_sum the-book = c.past_in-past.ensures.sum ∙ ap (λ (x : Bool). cond x 0 (settled_sum the-book)) fit in
+    let made : c.past_in-past.result.sum + (c.net_of.result + c.units_of.result) ≡ settled_sum the-book (net_of the-book units_of the-amount) = ap₂ ◌+◌ sum in
     let u = c in
-    let b = the-book u in
-    let a = the-amount u in
-    let within : settled_sum b + (net_of b + units_of a) ≤ largest = omega (arith, made u, c.if-settled-net_of-gt-L.false) in
+    let b = the-book in
+    let a = the-amount in
+    let within : settled_sum b + (net_of b + units_of a) ≤ largest = omega (arith, made, c.if-settled-net_of-gt-L.false) in
     sym (front_passed (move_rows b a) (last b a) passed
     ∙ ap (λ (s : Bool). check_of (row Limit s ∷ [])) (le-ltb largest (settled_sum b + (net_of b + units_of a)) within))

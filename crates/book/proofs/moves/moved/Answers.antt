@@ -25,5 +25,5 @@ returns c = let s = c in
     record {
       outcome = ap (λ (x : Book). gives (magnitude_of x.net)) next;
       book = next;
-      paid = c.units_between-payouts.ensures ∙ between_are b.weights-1 s.requires.0 s.requires.1 s.args.low s.args.high;
+      paid = c.units_between-payouts.ensures ∙ between_are b.weights s.requires.0 s.requires.1 s.args.low s.args.high;
     }

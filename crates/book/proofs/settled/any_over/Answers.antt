@@ -16,8 +16,8 @@ use Rattle.book.proofs.settled.any_over.Goals as goal
 
 pub loop-i-init : goal.loop-i-init
 loop-i-init c =
-    let long : length c.args.t1 ≡ 16 = search rules in
-    let h = long in (omega arith, none_past far_off c.args.t1 16 (omega arith))
+    let long : length c.args.settled ≡ 16 = search rules in
+    let h = long in (omega arith, none_past far_off c.args.settled 16 (omega arith))
 
 pub overflow_sub-i : goal.overflow_sub-i
 overflow_sub-i c = omega arith
@@ -30,9 +30,11 @@ bounds-settled-i c = omega arith
 
 pub returns-then-magnitude-gt-L : goal.returns-then-magnitude-gt-L
 returns-then-magnitude-gt-L c =
-    let here : c.magnitude.result ≡ magnitude_of (get_or c.args.t1 (c.loop-i.i - 1) (pos 0)) = let z = get_or c.args.t1 (c.loop-i.i - 1) (pos 0) in c.magnitude.ensures ∙ ap magnitude_of (read_back z c.magnitude-arg-1.given) in
+    let here : c.magnitude.result ≡ magnitude_of (get_or c.args.settled (c.loop-i.i - 1) (pos 0)) =
+    let z = get_or c.args.settled (c.loop-i.i - 1) (pos 0) in
+    c.magnitude.ensures ∙ ap magnitude_of (read_back z c.magnitude-arg-1.given) in
     let s = c in
-    let zs = s.args.t1 in
+    let zs = s.args.settled in
     let k = s.loop-i.i - 1 in
     sym (some_at far_off refl zs k (lt-ltb largest (magnitude_of (get_or zs k (pos 0))) (omega (arith, c.if-magnitude-gt-L.true, here))))
 
@@ -41,10 +43,12 @@ loop-i-smaller c = omega arith
 
 pub loop-i-preserved : goal.loop-i-preserved
 loop-i-preserved c =
-    let long : length c.args.t1 ≡ 16 = search rules in
-    let here : c.magnitude.result ≡ magnitude_of (get_or c.args.t1 (c.loop-i.i - 1) (pos 0)) = let z = get_or c.args.t1 (c.loop-i.i - 1) (pos 0) in c.magnitude.ensures ∙ ap magnitude_of (read_back z c.magnitude-arg-1.given) in
+    let long : length c.args.settled ≡ 16 = search rules in
+    let here : c.magnitude.result ≡ magnitude_of (get_or c.args.settled (c.loop-i.i - 1) (pos 0)) =
+    let z = get_or c.args.settled (c.loop-i.i - 1) (pos 0) in
+    c.magnitude.ensures ∙ ap magnitude_of (read_back z c.magnitude-arg-1.given) in
     let s = c in
-    let zs = s.args.t1 in
+    let zs = s.args.settled in
     let i = s.loop-i.i in
     let h = long in
     let e : i ≡ suc (i - 1) = omega arith in
@@ -53,4 +57,4 @@ loop-i-preserved c =
 
 pub returns : goal.returns
 returns c = let e : c.loop-i.i ≡ 0 = omega arith in
-    sym c.loop-i.invariant.1 ∙ ap (λ (k : ℕ). any_over (drop k c.args.t1)) e
+    sym c.loop-i.invariant.1 ∙ ap (λ (k : ℕ). any_over (drop k c.args.settled)) e

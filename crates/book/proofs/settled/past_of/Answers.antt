@@ -19,29 +19,6 @@ use Rattle.book.proofs.SettledTotals.{up_held, down_held, within}
 use Rattle.book.proofs.Told.{told_over, told_sums}
 use Rattle.book.proofs.settled.past_of.Goals as goal
 
--- the sums by what the settled totals are, and their limits
-module _ (c : goal.After-sums_from-behind) where
-  abbrev zs : List ℤ
-  zs = c.before.before.before.before.args.settled
-
-  abbrev count : ℕ
-  count = c.before.before.before.before.args.count
-
-  long : length zs ≡ 16
-  long = search rules
-
-  all : (c.before.sums-from.result.above ≡ above zs) × (c.before.sums-from.result.below ≡ below zs)
-  all = c.before.sums-from.ensures
-
-  some : (c.sums-from2.result.above ≡ above (drop count zs)) × (c.sums-from2.result.below ≡ below (drop count zs))
-  some = c.sums-from2.ensures
-
-  limits : (above zs ≤ 16 * largest) × (below zs ≤ 16 * largest)
-  limits = within zs 0 long (none c.before.before)
-
-  more : (above (drop count zs) ≤ 16 * largest) × (below (drop count zs) ≤ 16 * largest)
-  more = within zs count long (none c.before.before)
-
 pub returns-then-any_over : goal.returns-then-any_over
 returns-then-any_over c = let over : any_over c.args.settled ≡ true = sym c.any_over.ensures ∙ c.if-any_over.true in
     told_over c.args.settled c.args.count c.args.net _ over refl refl
@@ -58,34 +35,68 @@ sums_from-behind-requires c =
 
 pub overflow_add-full : goal.overflow_add-full
 overflow_add-full c =
+    let all : (c.sums_from-all.result.above ≡ above zs) × (c.sums_from-all.result.below ≡ below zs) = c.sums_from-all.ensures in
+    let none : any_over c.args.settled ≡ false = sym c.any_over.ensures ∙ c.if-any_over.false in
+    let zs : List ℤ = c.args.settled in
+    let long : length zs 16 = search rules in
+    let limits : (above zs 16 * largest) × (below zs 16 * largest) = within zs long in
     let net-fits : SFits w64 c.args.net = search rules in
-    let lower : (c.down.result ≡ down_of c.args.net) × (down_of c.args.net ≤ 2 ^ 63) = let s = c in (c.down.ensures ∙ ap down_of (to_z-of_z w64 s.args.net net-fits), down_held s.args.net net-fits) in
-    let d = c in omega (arith, (all d).1, (limits d).1, lower.0, lower.1)
+    let lower : (c.down.result ≡ down_of c.args.net) × (down_of c.args.net ≤ 2 ^ 63) =
+    let s = c in
+    (c.down.ensures ∙ ap down_of (to_z-of_z w64 s.args.net net-fits), down_held s.args.net net-fits) in
+    let d = c in omega (arith, all.1, limits.1, lower.0, lower.1)
 
 pub overflow_add-full-2 : goal.overflow_add-full-2
 overflow_add-full-2 c =
+    let all : (c.sums_from-all.result.above ≡ above zs) × (c.sums_from-all.result.below ≡ below zs) = c.sums_from-all.ensures in
+    let none : any_over c.args.settled ≡ false = sym c.any_over.ensures ∙ c.if-any_over.false in
+    let zs : List ℤ = c.args.settled in
+    let long : length zs 16 = search rules in
+    let limits : (above zs 16 * largest) × (below zs 16 * largest) = within zs long in
     let net-fits : SFits w64 c.args.net = search rules in
-    let lower : (c.down.result ≡ down_of c.args.net) × (down_of c.args.net ≤ 2 ^ 63) = let s = c in (c.down.ensures ∙ ap down_of (to_z-of_z w64 s.args.net net-fits), down_held s.args.net net-fits) in
-    let d = c in omega (arith, (all d).1, (limits d).1, lower.0, lower.1)
+    let lower : (c.down.result ≡ down_of c.args.net) × (down_of c.args.net ≤ 2 ^ 63) =
+    let s = c in
+    (c.down.ensures ∙ ap down_of (to_z-of_z w64 s.args.net net-fits), down_held s.args.net net-fits) in
+    let d = c in omega (arith, all.1, limits.1, lower.0, lower.1)
 
 pub overflow_add-full-3 : goal.overflow_add-full-3
 overflow_add-full-3 c =
+    let all : (c.sums_from-all.result.above ≡ above zs) × (c.sums_from-all.result.below ≡ below zs) = c.sums_from-all.ensures in
+    let none : any_over c.args.settled ≡ false = sym c.any_over.ensures ∙ c.if-any_over.false in
+    let zs : List ℤ = c.args.settled in
+    let long : length zs 16 = search rules in
+    let limits : (above zs 16 * largest) × (below zs 16 * largest) = within zs long in
     let net-fits : SFits w64 c.args.net = search rules in
-    let upper : (c.up.result ≡ up_of c.args.net) × (up_of c.args.net ≤ 2 ^ 63) = let s = c in (c.up.ensures ∙ ap up_of (to_z-of_z w64 s.args.net net-fits), up_held s.args.net net-fits) in
+    let upper : (c.up.result ≡ up_of c.args.net) × (up_of c.args.net ≤ 2 ^ 63) =
+    let s = c in
+    (c.up.ensures ∙ ap up_of (to_z-of_z w64 s.args.net net-fits), up_held s.args.net net-fits) in
     let u = c in
-    let s = u in omega (arith, (all s).0, (limits s).0, upper.0, upper.1)
+    let s = u in omega (arith, all.0, limits.0, upper.0, upper.1)
 
 pub overflow_add-past : goal.overflow_add-past
-overflow_add-past c = let s = c in omega (arith, (some s).0, (some s).1, (more s).0, (more s).1)
+overflow_add-past c =
+    let some : (c.sums_from-behind.result.above ≡ above (drop count)) × (c.sums_from-behind.result.below ≡ below (drop count)) = c.sums_from-behind.ensures in
+    let none : any_over c.args.settled ≡ false = sym c.any_over.ensures ∙ c.if-any_over.false in
+    let zs : List ℤ = c.args.settled in
+    let count : ℕ = c.args.count in
+    let long : length zs 16 = search rules in
+    let more : (above (drop count) ≤ 16 * largest) × (below (drop count) ≤ 16 * largest) = within zs long in
+    let s = c in omega (arith, some.0, some.1, more.0, more.1)
 
 pub returns : goal.returns
 returns c =
     let none : any_over c.args.settled ≡ false = sym c.any_over.ensures ∙ c.if-any_over.false in
+    let all : (c.sums_from-all.result.above ≡ above zs) × (c.sums_from-all.result.below ≡ below zs) = c.sums_from-all.ensures in
+    let some : (c.sums_from-behind.result.above ≡ above (drop count zs)) × (c.sums_from-behind.result.below ≡ below (drop count zs)) = c.sums_from-behind.ensures in
     let net-fits : SFits w64 c.args.net = search rules in
-    let lower : (c.down.result ≡ down_of c.args.net) × (down_of c.args.net ≤ 2 ^ 63) = let s = c in (c.down.ensures ∙ ap down_of (to_z-of_z w64 s.args.net net-fits), down_held s.args.net net-fits) in
-    let upper : (c.up.result ≡ up_of c.args.net) × (up_of c.args.net ≤ 2 ^ 63) = let s = c in (c.up.ensures ∙ ap up_of (to_z-of_z w64 s.args.net net-fits), up_held s.args.net net-fits) in
+    let lower : (c.down.result ≡ down_of c.args.net) × (down_of c.args.net ≤ 2 ^ 63) =
+    let s = c in
+    (c.down.ensures ∙ ap down_of (to_z-of_z w64 s.args.net net-fits), down_held s.args.net net-fits) in
+    let upper : (c.up.result ≡ up_of c.args.net) × (up_of c.args.net ≤ 2 ^ 63) =
+    let s = c in
+    (c.up.ensures ∙ ap up_of (to_z-of_z w64 s.args.net net-fits), up_held s.args.net net-fits) in
     let u = c in
     let d = u in
     let s = d in
     let a = s.args in
-    told_sums a.settled a.count a.net _ _ _ _ _ _ none (all s).0 (all s).1 (some s).0 (some s).1 upper.0 lower.0
+    told_sums a.settled a.count a.net _ _ _ _ _ _ none all.0 all.1 some.0 some.1 upper.0 lower.0

@@ -24,9 +24,9 @@ grows zs i long some most =
 
 pub loop-i-init : goal.loop-i-init
 loop-i-init c =
-    let long : length c.args.t1 ≡ 16 = search rules in
+    let long : length c.args.settled ≡ 16 = search rules in
     let h = long in
-    let none = none_behind_end c.args.t1 16 (omega arith) in (omega arith, sym none.0, sym none.1, λ b. refl)
+    let none = none_behind_end c.args.settled 16 (omega arith) in (omega arith, sym none.0, sym none.1, λ b. refl)
 
 pub overflow_sub-i : goal.overflow_sub-i
 overflow_sub-i c = omega arith
@@ -39,10 +39,12 @@ bounds-settled-i c = omega arith
 
 pub overflow_add-above : goal.overflow_add-above
 overflow_add-above c =
-    let long : length c.args.t1 ≡ 16 = search rules in
-    let upper : c.up-above.result ≡ up_of (get_or c.args.t1 (c.loop-i.i - 1) (pos 0)) = let z = get_or c.args.t1 (c.loop-i.i - 1) (pos 0) in c.up-above.ensures ∙ ap up_of (read_back z c.up-arg-1.given) in
+    let long : length c.args.settled ≡ 16 = search rules in
+    let upper : c.up-above.result ≡ up_of (get_or c.args.settled (c.loop-i.i - 1) (pos 0)) =
+    let z = get_or c.args.settled (c.loop-i.i - 1) (pos 0) in
+    c.up-above.ensures ∙ ap up_of (read_back z c.up-arg-1.given) in
     let l = c in
-    let zs = l.args.t1 in
+    let zs = l.args.settled in
     let h = long in
     omega (arith, (grows zs l.loop-i.i h (omega arith) l.loop-i.invariant.0).0, (within zs (l.loop-i.i - 1) h l.requires).0, upper, l.loop-i.invariant.1)
 
@@ -54,10 +56,12 @@ bounds-settled-i-in-loop-i c = omega arith
 
 pub overflow_add-below : goal.overflow_add-below
 overflow_add-below c =
-    let long : length c.args.t1 ≡ 16 = search rules in
-    let lower : c.down-below.result ≡ down_of (get_or c.args.t1 (c.loop-i.i - 1) (pos 0)) = let z = get_or c.args.t1 (c.loop-i.i - 1) (pos 0) in c.down-below.ensures ∙ ap down_of (read_back z c.down-arg-1.given) in
+    let long : length c.args.settled ≡ 16 = search rules in
+    let lower : c.down-below.result ≡ down_of (get_or c.args.settled (c.loop-i.i - 1) (pos 0)) =
+    let z = get_or c.args.settled (c.loop-i.i - 1) (pos 0) in
+    c.down-below.ensures ∙ ap down_of (read_back z c.down-arg-1.given) in
     let l = c in
-    let zs = l.args.t1 in
+    let zs = l.args.settled in
     let h = long in
     omega (arith, (grows zs l.loop-i.i h (omega arith) l.loop-i.invariant.0).1, (within zs (l.loop-i.i - 1) h l.requires).1, lower, l.loop-i.invariant.2)
 
@@ -66,30 +70,34 @@ loop-i-smaller c = omega arith
 
 pub loop-i-preserved : goal.loop-i-preserved
 loop-i-preserved c =
-    let long : length c.args.t1 ≡ 16 = search rules in
-    let upper : c.up-above.result ≡ up_of (get_or c.args.t1 (c.loop-i.i - 1) (pos 0)) = let z = get_or c.args.t1 (c.loop-i.i - 1) (pos 0) in c.up-above.ensures ∙ ap up_of (read_back z c.up-arg-1.given) in
-    let lower : c.down-below.result ≡ down_of (get_or c.args.t1 (c.loop-i.i - 1) (pos 0)) = let z = get_or c.args.t1 (c.loop-i.i - 1) (pos 0) in c.down-below.ensures ∙ ap down_of (read_back z c.down-arg-1.given) in
+    let long : length c.args.settled ≡ 16 = search rules in
+    let upper : c.up-above.result ≡ up_of (get_or c.args.settled (c.loop-i.i - 1) (pos 0)) =
+    let z = get_or c.args.settled (c.loop-i.i - 1) (pos 0) in
+    c.up-above.ensures ∙ ap up_of (read_back z c.up-arg-1.given) in
+    let lower : c.down-below.result ≡ down_of (get_or c.args.settled (c.loop-i.i - 1) (pos 0)) =
+    let z = get_or c.args.settled (c.loop-i.i - 1) (pos 0) in
+    c.down-below.ensures ∙ ap down_of (read_back z c.down-arg-1.given) in
     let l = c in
-    let zs = l.args.t1 in
+    let zs = l.args.settled in
     let g = grows zs l.loop-i.i long (omega arith) l.loop-i.invariant.0 in
     (omega arith, omega (arith, g.0, upper, l.loop-i.invariant.1), omega (arith, g.1, lower, l.loop-i.invariant.2), λ b. omega arith)
 
 pub returns : goal.returns
 returns c =
-    let long : length c.args.t1 ≡ 16 = search rules in
+    let long : length c.args.settled ≡ 16 = search rules in
     go (dec_lt c.loop-i.i c.args.from)
   where
     go : Dec (c.loop-i.i < c.args.from)
-        → (c.loop-i.above ≡ above (drop c.args.from c.args.t1))
-        × (c.loop-i.below ≡ below (drop c.args.from c.args.t1))
+        → (c.loop-i.above ≡ above (drop c.args.from c.args.settled))
+        × (c.loop-i.below ≡ below (drop c.args.from c.args.settled))
     go (yes b) =
         let h = long in
         let e = c.loop-i.invariant.3 b in
-        let here = none_behind_end c.args.t1 c.loop-i.i (omega arith) in
-        let there = none_behind_end c.args.t1 c.args.from (omega arith) in
+        let here = none_behind_end c.args.settled c.loop-i.i (omega arith) in
+        let there = none_behind_end c.args.settled c.args.from (omega arith) in
         (omega (arith, here.0, there.0, c.loop-i.invariant.1), omega (arith, here.1, there.1, c.loop-i.invariant.2))
     go (no b) =
         let e : c.loop-i.i ≡ c.args.from = omega arith in (
-          c.loop-i.invariant.1 ∙ ap (λ (k : ℕ). above (drop k c.args.t1)) e,
-          c.loop-i.invariant.2 ∙ ap (λ (k : ℕ). below (drop k c.args.t1)) e,
+          c.loop-i.invariant.1 ∙ ap (λ (k : ℕ). above (drop k c.args.settled)) e,
+          c.loop-i.invariant.2 ∙ ap (λ (k : ℕ). below (drop k c.args.settled)) e,
         )

@@ -6,7 +6,7 @@ use Rattle.bulk.proofs.serving.serve.Goals as goal
 pub by_table-requires : goal.by_table-requires
 by_table-requires c = let w = c in
     let s = w in record {
-      sound = s.requires.0;
-      weighed = sound_weighed s.args.book s.requires.0 w.sum_from-sum.result w.sum_from-sum.ensures;
-      fit = s.requires.1;
+      sound = s.requires.sound;
+      weighed = sound_weighed s.args.book s.requires.sound w.sum_from-sum.result w.sum_from-sum.ensures;
+      fit = s.requires.fit;
     }

@@ -22,30 +22,46 @@ use Rattle.bulk.proofs.tabled.by_rows.Goals as goal
 
 pub totals_by-held-requires : goal.totals_by-held-requires
 totals_by-held-requires c =
-    let net : c.magnitude-net.result ≡ net_of c.args.book = let z = c.args.book.net in let fits : SFits w64 z = search rules in c.magnitude-net.ensures ∙ ap magnitude_of (to_z-of_z w64 z fits) in
-    let sum : c.settled_sum-settled.result ≡ settled_sum c.args.book = let s = c in sound_settled s.args.book s.requires.0 c.settled_sum-settled.result c.settled_sum-settled.ensures in
-    let limit : c.settled_sum-settled.result + c.magnitude-net.result ≤ largest = let s = c in rw (net, sum) (sound_net s.args.book s.requires.0).1 in
-    let s = c in record { weighed = s.requires.1.0; cycled = s.requires.1.1.0; n_le_largest = omega (arith, limit) }
+    let net : c.magnitude-net.result ≡ net_of c.args.book =
+    let z = c.args.book.net in
+    let fits : SFits w64 z = search rules in c.magnitude-net.ensures ∙ ap magnitude_of (to_z-of_z w64 z fits) in
+    let sum : c.settled_sum-settled.result ≡ settled_sum c.args.book =
+    let s = c in
+    sound_settled s.args.book s.requires.sound c.settled_sum-settled.result c.settled_sum-settled.ensures in
+    let limit : c.settled_sum-settled.result + c.magnitude-net.result ≤ largest = let s = c in rw (net, sum) (sound_net s.args.book s.requires.sound).1 in
+    let s = c in record { weighed = s.requires.weighed; cycled = s.requires.cycled; n_le_largest = omega (arith, limit) }
 
 pub loop-j-init : goal.loop-j-init
 loop-j-init c =
-    let net : c.magnitude-net.result ≡ net_of c.args.book = let z = c.args.book.net in let fits : SFits w64 z = search rules in c.magnitude-net.ensures ∙ ap magnitude_of (to_z-of_z w64 z fits) in
-    let sum : c.settled_sum-settled.result ≡ settled_sum c.args.book = let s = c in sound_settled s.args.book s.requires.0 c.settled_sum-settled.result c.settled_sum-settled.ensures in
-    let limit : c.settled_sum-settled.result + c.magnitude-net.result ≤ largest = let s = c in rw (net, sum) (sound_net s.args.book s.requires.0).1 in
+    let net : c.magnitude-net.result ≡ net_of c.args.book =
+    let z = c.args.book.net in
+    let fits : SFits w64 z = search rules in c.magnitude-net.ensures ∙ ap magnitude_of (to_z-of_z w64 z fits) in
+    let sum : c.settled_sum-settled.result ≡ settled_sum c.args.book =
+    let s = c in
+    sound_settled s.args.book s.requires.sound c.settled_sum-settled.result c.settled_sum-settled.ensures in
+    let limit : c.settled_sum-settled.result + c.magnitude-net.result ≤ largest = let s = c in rw (net, sum) (sound_net s.args.book s.requires.sound).1 in
     (search rules, limit, c.totals_by-held.ensures, serving_start _ _ _ _ _ _ _)
 
 pub step-net-requires : goal.step-net-requires
 step-net-requires c =
-    let net : c.magnitude-net.result ≡ net_of c.args.book = let z = c.args.book.net in let fits : SFits w64 z = search rules in c.magnitude-net.ensures ∙ ap magnitude_of (to_z-of_z w64 z fits) in
-    let sum : c.settled_sum-settled.result ≡ settled_sum c.args.book = let s = c in sound_settled s.args.book s.requires.0 c.settled_sum-settled.result c.settled_sum-settled.ensures in
-    let served : let s = c in ServedTo s.args.book s.args.refunds.now s.args.coefficients.now s.args.payouts.now s.args.numbers.now c.loop-j.j (next_book s.args.book (gives c.loop-j.net)) c.loop-j.payouts c.loop-j.numbers = let s = c in c.loop-j.invariant.3 s.args.book s.requires.0 refl (sym sum) (sym net) in
-    let lengths : let s = c in (length c.loop-j.payouts ≡ length s.args.payouts.now) × (length c.loop-j.numbers ≡ length s.args.numbers.now) = let a = c.args in served_lengths a.book a.refunds.now a.coefficients.now a.payouts-1.now a.numbers-1.now served in
+    let net : c.magnitude-net.result ≡ net_of c.args.book =
+    let z = c.args.book.net in
+    let fits : SFits w64 z = search rules in c.magnitude-net.ensures ∙ ap magnitude_of (to_z-of_z w64 z fits) in
+    let sum : c.settled_sum-settled.result ≡ settled_sum c.args.book =
+    let s = c in
+    sound_settled s.args.book s.requires.sound c.settled_sum-settled.result c.settled_sum-settled.ensures in
+    let served : let s = c in ServedTo s.args.book s.args.refunds.now s.args.coefficients.now s.args.payouts.now s.args.numbers.now c.loop-j.j (next_book s.args.book (gives c.loop-j.net)) c.loop-j.payouts c.loop-j.numbers =
+    let s = c in
+    c.loop-j.invariant.3 s.args.book s.requires.sound refl (sym sum) (sym net) in
+    let lengths : let s = c in (length c.loop-j.payouts ≡ length s.args.payouts.now) × (length c.loop-j.numbers ≡ length s.args.numbers.now) =
+    let a = c.args in
+    served_lengths a.book a.refunds.now a.coefficients.now a.payouts.now a.numbers.now served in
     let at = c in
     let long = lengths in
     let s = at in
     let inside = c.loop-j-test.true in record {
-      weighed = s.requires.1.0;
-      cycled = s.requires.1.1.0;
+      weighed = s.requires.weighed;
+      cycled = s.requires.cycled;
       net_bound = (at.loop-j.invariant.1, at.loop-j.invariant.2);
       partners_in_bounds = (omega arith, omega arith);
     }
@@ -64,30 +80,52 @@ loop-j-preserved c = let t = c.step-net in
       omega (arith, test.loop-j-test.true),
       step_within at.loop-j.invariant.1 t.ensures,
       t.ensures.held,
-      serving_step a.refunds.now a.coefficients.now a.payouts-1.now a.numbers-1.now a.book.weights _ _ _ (read_back _ k) at.loop-j.invariant.1 at.loop-j.invariant.3 t.ensures,
+      serving_step a.refunds.now a.coefficients.now a.payouts.now a.numbers.now a.book.weights _ _ _ (read_back _ k) at.loop-j.invariant.1 at.loop-j.invariant.3 t.ensures,
     )
 
 pub shape_of-payouts : goal.shape_of-payouts
 shape_of-payouts c =
-    let net : c.magnitude-net.result ≡ net_of c.args.book = let z = c.args.book.net in let fits : SFits w64 z = search rules in c.magnitude-net.ensures ∙ ap magnitude_of (to_z-of_z w64 z fits) in
-    let sum : c.settled_sum-settled.result ≡ settled_sum c.args.book = let s = c in sound_settled s.args.book s.requires.0 c.settled_sum-settled.result c.settled_sum-settled.ensures in
-    let served : let s = c in ServedTo s.args.book s.args.refunds.now s.args.coefficients.now s.args.payouts.now s.args.numbers.now c.loop-j.j (next_book s.args.book (gives c.loop-j.net)) c.loop-j.payouts c.loop-j.numbers = let s = c in c.loop-j.invariant.3 s.args.book s.requires.0 refl (sym sum) (sym net) in
-    let lengths : let s = c in (length c.loop-j.payouts ≡ length s.args.payouts.now) × (length c.loop-j.numbers ≡ length s.args.numbers.now) = let a = c.args in served_lengths a.book a.refunds.now a.coefficients.now a.payouts-1.now a.numbers-1.now served in
+    let net : c.magnitude-net.result ≡ net_of c.args.book =
+    let z = c.args.book.net in
+    let fits : SFits w64 z = search rules in c.magnitude-net.ensures ∙ ap magnitude_of (to_z-of_z w64 z fits) in
+    let sum : c.settled_sum-settled.result ≡ settled_sum c.args.book =
+    let s = c in
+    sound_settled s.args.book s.requires.sound c.settled_sum-settled.result c.settled_sum-settled.ensures in
+    let served : let s = c in ServedTo s.args.book s.args.refunds.now s.args.coefficients.now s.args.payouts.now s.args.numbers.now c.loop-j.j (next_book s.args.book (gives c.loop-j.net)) c.loop-j.payouts c.loop-j.numbers =
+    let s = c in
+    c.loop-j.invariant.3 s.args.book s.requires.sound refl (sym sum) (sym net) in
+    let lengths : let s = c in (length c.loop-j.payouts ≡ length s.args.payouts.now) × (length c.loop-j.numbers ≡ length s.args.numbers.now) =
+    let a = c.args in
+    served_lengths a.book a.refunds.now a.coefficients.now a.payouts.now a.numbers.now served in
     lengths.0
 
 pub shape_of-numbers : goal.shape_of-numbers
 shape_of-numbers c =
-    let net : c.magnitude-net.result ≡ net_of c.args.book = let z = c.args.book.net in let fits : SFits w64 z = search rules in c.magnitude-net.ensures ∙ ap magnitude_of (to_z-of_z w64 z fits) in
-    let sum : c.settled_sum-settled.result ≡ settled_sum c.args.book = let s = c in sound_settled s.args.book s.requires.0 c.settled_sum-settled.result c.settled_sum-settled.ensures in
-    let served : let s = c in ServedTo s.args.book s.args.refunds.now s.args.coefficients.now s.args.payouts.now s.args.numbers.now c.loop-j.j (next_book s.args.book (gives c.loop-j.net)) c.loop-j.payouts c.loop-j.numbers = let s = c in c.loop-j.invariant.3 s.args.book s.requires.0 refl (sym sum) (sym net) in
-    let lengths : let s = c in (length c.loop-j.payouts ≡ length s.args.payouts.now) × (length c.loop-j.numbers ≡ length s.args.numbers.now) = let a = c.args in served_lengths a.book a.refunds.now a.coefficients.now a.payouts-1.now a.numbers-1.now served in
+    let net : c.magnitude-net.result ≡ net_of c.args.book =
+    let z = c.args.book.net in
+    let fits : SFits w64 z = search rules in c.magnitude-net.ensures ∙ ap magnitude_of (to_z-of_z w64 z fits) in
+    let sum : c.settled_sum-settled.result ≡ settled_sum c.args.book =
+    let s = c in
+    sound_settled s.args.book s.requires.sound c.settled_sum-settled.result c.settled_sum-settled.ensures in
+    let served : let s = c in ServedTo s.args.book s.args.refunds.now s.args.coefficients.now s.args.payouts.now s.args.numbers.now c.loop-j.j (next_book s.args.book (gives c.loop-j.net)) c.loop-j.payouts c.loop-j.numbers =
+    let s = c in
+    c.loop-j.invariant.3 s.args.book s.requires.sound refl (sym sum) (sym net) in
+    let lengths : let s = c in (length c.loop-j.payouts ≡ length s.args.payouts.now) × (length c.loop-j.numbers ≡ length s.args.numbers.now) =
+    let a = c.args in
+    served_lengths a.book a.refunds.now a.coefficients.now a.payouts.now a.numbers.now served in
     lengths.1
 
 pub returns : goal.returns
 returns c =
-    let net : c.magnitude-net.result ≡ net_of c.args.book = let z = c.args.book.net in let fits : SFits w64 z = search rules in c.magnitude-net.ensures ∙ ap magnitude_of (to_z-of_z w64 z fits) in
-    let sum : c.settled_sum-settled.result ≡ settled_sum c.args.book = let s = c in sound_settled s.args.book s.requires.0 c.settled_sum-settled.result c.settled_sum-settled.ensures in
-    let served : let s = c in ServedTo s.args.book s.args.refunds.now s.args.coefficients.now s.args.payouts.now s.args.numbers.now c.loop-j.j (next_book s.args.book (gives c.loop-j.net)) c.loop-j.payouts c.loop-j.numbers = let s = c in c.loop-j.invariant.3 s.args.book s.requires.0 refl (sym sum) (sym net) in
+    let net : c.magnitude-net.result ≡ net_of c.args.book =
+    let z = c.args.book.net in
+    let fits : SFits w64 z = search rules in c.magnitude-net.ensures ∙ ap magnitude_of (to_z-of_z w64 z fits) in
+    let sum : c.settled_sum-settled.result ≡ settled_sum c.args.book =
+    let s = c in
+    sound_settled s.args.book s.requires.sound c.settled_sum-settled.result c.settled_sum-settled.ensures in
+    let served : let s = c in ServedTo s.args.book s.args.refunds.now s.args.coefficients.now s.args.payouts.now s.args.numbers.now c.loop-j.j (next_book s.args.book (gives c.loop-j.net)) c.loop-j.payouts c.loop-j.numbers =
+    let s = c in
+    c.loop-j.invariant.3 s.args.book s.requires.sound refl (sym sum) (sym net) in
     let a = c.args in
     let e : c.loop-j.j ≡ length a.refunds.now = omega arith in
     (omega (arith, c.loop-j.invariant.1), rw e at served)

@@ -18,10 +18,10 @@ pub by_rows-net-requires : goal.by_rows-net-requires
 by_rows-net-requires c = let f = c in
     let s = f in
     let a = s.args in record {
-      sound = s.requires.0;
-      weighed = s.requires.1.0;
-      cycled = subst (Cycled a.book.weights a.sum) (sym f.fill_cycle.ensures) (has_rows a.book.weights _ a.sum s.requires.1.0 s.requires.1.0.most);
-      fit = s.requires.1.1;
+      sound = s.requires.sound;
+      weighed = s.requires.weighed;
+      cycled = subst (Cycled a.book.weights a.sum) (sym f.fill_cycle.ensures) (has_rows a.book.weights _ a.sum s.requires.weighed s.requires.weighed.most);
+      fit = s.requires.fit;
     }
 
 pub returns : goal.returns

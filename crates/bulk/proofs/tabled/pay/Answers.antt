@@ -14,7 +14,7 @@ pub loop-i-init : goal.loop-i-init
 loop-i-init c = (omega arith, fill_none _ _ _)
 
 pub overflow_sub-out : goal.overflow_sub-out
-overflow_sub-out c = omega (arith, c.requires.0 c.loop-i.i)
+overflow_sub-out c = omega (arith, c.requires.by_index c.loop-i.i)
 
 pub overflow_add-out : goal.overflow_add-out
 overflow_add-out c = omega arith
@@ -24,18 +24,18 @@ offset_bounds-out-at c = omega arith
 
 pub bounds-out-at : goal.bounds-out-at
 bounds-out-at c =
-    let long : length c.loop-i.out ≡ length c.args.out.now = let a = c.args in ap length c.loop-i.invariant.1 ∙ length_filled a.at (λ k. get_or (less_of a.t1 a.t2) k 0) a.out.now c.loop-i.i in
+    let long : length c.loop-i.out ≡ length c.args.out.now = let a = c.args in ap length c.loop-i.invariant.1 ∙ length_filled a.at (λ k. get_or (less_of a.high a.low) k 0) a.out.now c.loop-i.i in
     omega (arith, long)
 
 pub loop-i-preserved : goal.loop-i-preserved
 loop-i-preserved c = let a = c.args in
     let l = c.loop-i in
-    (omega arith, fill_more a.at (λ k. get_or (less_of a.t1 a.t2) k 0) a.out.now l.out l.i _ _ l.invariant.1 refl (sym (less_place a.t1 a.t2 l.i)))
+    (omega arith, fill_more a.at (λ k. get_or (less_of a.high a.low) k 0) a.out.now l.out l.i _ _ l.invariant.1 refl (sym (less_place a.high a.low l.i)))
 
 pub shape_of-out : goal.shape_of-out
 shape_of-out c =
-    let long : length c.loop-i.out ≡ length c.args.out.now = let a = c.args in ap length c.loop-i.invariant.1 ∙ length_filled a.at (λ k. get_or (less_of a.t1 a.t2) k 0) a.out.now c.loop-i.i in
+    let long : length c.loop-i.out ≡ length c.args.out.now = let a = c.args in ap length c.loop-i.invariant.1 ∙ length_filled a.at (λ k. get_or (less_of a.high a.low) k 0) a.out.now c.loop-i.i in
     long
 
 pub returns : goal.returns
-returns c = let a = c.args in c.loop-i.invariant.1 ∙ ap (written a.out.now a.at (less_of a.t1 a.t2)) (omega arith)
+returns c = let a = c.args in c.loop-i.invariant.1 ∙ ap (written a.out.now a.at (less_of a.high a.low)) (omega arith)

@@ -14,7 +14,10 @@ use Rattle.bulk.proofs.turns.call.Goals as goal
 pub returns-then-refund : goal.returns-then-refund
 unfolding amount_of
 returns-then-refund c =
-    let asked : record { currency = c.args.book.currency; scale = c.line_of-line.result.digits; coefficient = to_z w64 (of_z w64 c.args.coefficient) } ≡ amount_of c.args.book c.args.coefficient = let a = c.args in let fits : SFits w64 a.coefficient = search rules in ap₂ (λ (l : Line) (z : ℤ). record { currency = a.book.currency; scale = l.digits; coefficient = z }) c.line_of-line.ensures (to_z-of_z w64 a.coefficient fits) in
+    let asked : record { currency = c.args.book.currency; scale = c.line_of-line.result.digits; coefficient = to_z w64 (of_z w64 c.args.coefficient) } ≡ amount_of c.args.book c.args.coefficient =
+    let a = c.args in
+    let fits : SFits w64 a.coefficient = search rules in
+    ap₂ (λ (l : Line) (z : ℤ). record { currency = a.book.currency; scale = l.digits; coefficient = z }) c.line_of-line.ensures (to_z-of_z w64 a.coefficient fits) in
     let l = c in
     let a = l.args in
     call_refunds a.refund a.book a.coefficient c.refund.result c.if-refund.true
@@ -23,7 +26,10 @@ returns-then-refund c =
 pub returns-else-refund : goal.returns-else-refund
 unfolding amount_of
 returns-else-refund c =
-    let asked : record { currency = c.args.book.currency; scale = c.line_of-line.result.digits; coefficient = to_z w64 (of_z w64 c.args.coefficient) } ≡ amount_of c.args.book c.args.coefficient = let a = c.args in let fits : SFits w64 a.coefficient = search rules in ap₂ (λ (l : Line) (z : ℤ). record { currency = a.book.currency; scale = l.digits; coefficient = z }) c.line_of-line.ensures (to_z-of_z w64 a.coefficient fits) in
+    let asked : record { currency = c.args.book.currency; scale = c.line_of-line.result.digits; coefficient = to_z w64 (of_z w64 c.args.coefficient) } ≡ amount_of c.args.book c.args.coefficient =
+    let a = c.args in
+    let fits : SFits w64 a.coefficient = search rules in
+    ap₂ (λ (l : Line) (z : ℤ). record { currency = a.book.currency; scale = l.digits; coefficient = z }) c.line_of-line.ensures (to_z-of_z w64 a.coefficient fits) in
     let l = c in
     let a = l.args in
     call_posts a.refund a.book a.coefficient c.post.result c.if-refund.false

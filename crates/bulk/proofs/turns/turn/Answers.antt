@@ -9,6 +9,6 @@ pub returns : goal.returns
 returns c = let k = c in
     let s = k in
     let a = s.args in
-    turned a.book a.refund a.coefficient _ a.j a.payouts-1.now a.numbers.now _ _ k.call-moved.result
+    turned a.book a.refund a.coefficient _ a.j a.payouts.now a.numbers.now _ _ k.call-moved.result
     (to_z-of_z w64 a.coefficient s.ranges.coefficient) k.call-moved.ensures c.write.ensures
     c.number.ensures

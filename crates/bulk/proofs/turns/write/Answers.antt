@@ -19,18 +19,18 @@ offset_bounds-out-at c = omega arith
 
 pub bounds-out-at : goal.bounds-out-at
 bounds-out-at c =
-    let long : length c.loop-i.out ≡ length c.args.out.now = let a = c.args in ap length c.loop-i.invariant.1 ∙ length_filled a.at (λ k. get_or a.t3 k 0) a.out.now c.loop-i.i in
+    let long : length c.loop-i.out ≡ length c.args.out.now = let a = c.args in ap length c.loop-i.invariant.1 ∙ length_filled a.at (λ k. get_or a.payouts k 0) a.out.now c.loop-i.i in
     omega (arith, long)
 
 pub loop-i-preserved : goal.loop-i-preserved
 loop-i-preserved c = let a = c.args in
     let l = c.loop-i in
-    (omega arith, fill_more a.at (λ k. get_or a.t3 k 0) a.out.now l.out l.i _ _ l.invariant.1 refl refl)
+    (omega arith, fill_more a.at (λ k. get_or a.payouts k 0) a.out.now l.out l.i _ _ l.invariant.1 refl refl)
 
 pub shape_of-out : goal.shape_of-out
 shape_of-out c =
-    let long : length c.loop-i.out ≡ length c.args.out.now = let a = c.args in ap length c.loop-i.invariant.1 ∙ length_filled a.at (λ k. get_or a.t3 k 0) a.out.now c.loop-i.i in
+    let long : length c.loop-i.out ≡ length c.args.out.now = let a = c.args in ap length c.loop-i.invariant.1 ∙ length_filled a.at (λ k. get_or a.payouts k 0) a.out.now c.loop-i.i in
     long
 
 pub returns : goal.returns
-returns c = let a = c.args in c.loop-i.invariant.1 ∙ ap (written a.out.now a.at a.t3) (omega arith)
+returns c = let a = c.args in c.loop-i.invariant.1 ∙ ap (written a.out.now a.at a.payouts) (omega arith)

@@ -21,65 +21,65 @@ returns-then-basis-ge-BASES c = simp (le-leb 4 c.args.basis (omega arith))
 pub returns-then-not-date_exists : goal.returns-then-not-date_exists
 unfolding days_rows days_said
 returns-then-not-date_exists c =
-    let basis-known : unknown_basis c.args.basis ≡ false = lt-leb 4 c.args.basis (omega arith) in
-    simp (basis-known, sym c.date_exists.ensures ∙ c.if-not-date_exists.true)
+    let basis_known : unknown_basis c.args.basis ≡ false = lt-leb 4 c.args.basis (omega arith) in
+    simp (basis_known, sym c.date_exists.ensures ∙ c.if-not-date_exists.true)
 
 pub returns-then-not-date_exists-2 : goal.returns-then-not-date_exists-2
 unfolding days_rows days_said
 returns-then-not-date_exists-2 c =
-    let basis-known : unknown_basis c.args.basis ≡ false = lt-leb 4 c.args.basis (omega arith) in
-    let start-exists : date_exists c.args.start ≡ true = sym c.date_exists.ensures ∙ c.if-not-date_exists.false in
+    let basis_known : unknown_basis c.args.basis ≡ false = lt-leb 4 c.args.basis (omega arith) in
+    let start_exists : date_exists c.args.start ≡ true = sym c.date_exists.ensures ∙ c.if-not-date_exists.false in
     let second = c in
     simp
-    (basis-known, start-exists, sym c.date_exists-2.ensures ∙ c.if-not-date_exists-2.true)
+    (basis_known, start_exists, sym c.date_exists-2.ensures ∙ c.if-not-date_exists-2.true)
 
 pub day_number-from-requires : goal.day_number-from-requires
 day_number-from-requires c =
-    let start-exists : date_exists c.args.start ≡ true = sym c.date_exists.ensures ∙ c.if-not-date_exists.false in
-    start-exists
+    let start_exists : date_exists c.args.start ≡ true = sym c.date_exists.ensures ∙ c.if-not-date_exists.false in
+    start_exists
 
 pub day_number-to-requires : goal.day_number-to-requires
 day_number-to-requires c =
-    let end-exists : date_exists c.args.end ≡ true = sym c.date_exists-2.ensures ∙ c.if-not-date_exists-2.false in
-    end-exists
+    let end_exists : date_exists c.args.end ≡ true = sym c.date_exists-2.ensures ∙ c.if-not-date_exists-2.false in
+    end_exists
 
 pub returns-then-to-from : goal.returns-then-to-from
 unfolding days_rows days_said
 returns-then-to-from c =
-    let basis-known : unknown_basis c.args.basis ≡ false = lt-leb 4 c.args.basis (omega arith) in
-    let start-exists : date_exists c.args.start ≡ true = sym c.date_exists.ensures ∙ c.if-not-date_exists.false in
-    let end-exists : date_exists c.args.end ≡ true = sym c.date_exists-2.ensures ∙ c.if-not-date_exists-2.false in
+    let basis_known : unknown_basis c.args.basis ≡ false = lt-leb 4 c.args.basis (omega arith) in
+    let start_exists : date_exists c.args.start ≡ true = sym c.date_exists.ensures ∙ c.if-not-date_exists.false in
+    let end_exists : date_exists c.args.end ≡ true = sym c.date_exists-2.ensures ∙ c.if-not-date_exists-2.false in
     let third = c in
     let second = third in
     let a = second.args in
     simp (
-      basis-known,
-      start-exists,
-      end-exists,
+      basis_known,
+      start_exists,
+      end_exists,
       lt-ltb (day_of a.end) (day_of a.start) (omega (arith, c.if-to-from.true, c.day_number-from.ensures, c.day_number-to.ensures)),
     )
 
 pub count_of-days-requires : goal.count_of-days-requires
 count_of-days-requires c =
-    let start-exists : date_exists c.args.start ≡ true = sym c.date_exists.ensures ∙ c.if-not-date_exists.false in
-    let end-exists : date_exists c.args.end ≡ true = sym c.date_exists-2.ensures ∙ c.if-not-date_exists-2.false in
-    let numbered : Numbered c.args.start c.args.end c.day_number-from.result c.day_number-to.result = let third = c in let from = c.day_number-from.ensures in let to = c.day_number-to.ensures in record { dates = record { first = start-exists; second = end-exists; order = omega (arith, c.if-to-from.false, from, to) }; first = from; second = to } in
+    let start_exists : date_exists c.args.start ≡ true = sym c.date_exists.ensures ∙ c.if-not-date_exists.false in
+    let end_exists : date_exists c.args.end ≡ true = sym c.date_exists-2.ensures ∙ c.if-not-date_exists-2.false in
+    let numbered : Numbered c.args.start c.args.end c.day_number-from.result c.day_number-to.result = let third = c in let from = c.day_number-from.ensures in let to = c.day_number-to.ensures in record { dates = record { first = start_exists; second = end_exists; order = omega (arith, c.if-to-from.false, from, to) }; first = from; second = to } in
     numbered
 
 pub returns-then-days-gt366 : goal.returns-then-days-gt366
 returns-then-days-gt366 c =
     let call = c in
-    let start-exists : date_exists c.args.start ≡ true = sym c.date_exists.ensures ∙ c.if-not-date_exists.false in
-    let end-exists : date_exists c.args.end ≡ true = sym c.date_exists-2.ensures ∙ c.if-not-date_exists-2.false in
-    let numbered : Numbered call.args.start call.args.end c.day_number-from.result c.day_number-to.result = let third = c in let from = c.day_number-from.ensures in let to = c.day_number-to.ensures in record { dates = record { first = start-exists; second = end-exists; order = omega (arith, c.if-to-from.false, from, to) }; first = from; second = to } in
+    let start_exists : date_exists c.args.start ≡ true = sym c.date_exists.ensures ∙ c.if-not-date_exists.false in
+    let end_exists : date_exists c.args.end ≡ true = sym c.date_exists-2.ensures ∙ c.if-not-date_exists-2.false in
+    let numbered : Numbered call.args.start call.args.end c.day_number-from.result c.day_number-to.result = let third = c in let from = c.day_number-from.ensures in let to = c.day_number-to.ensures in record { dates = record { first = start_exists; second = end_exists; order = omega (arith, c.if-to-from.false, from, to) }; first = from; second = to } in
     let at_last : let a = call.args in let n = c.count_of-days.result in days_said a.basis a.start a.end ≡ first_row (row Days (ltb 366 n) ∷ []) (gives n) = let a = call.args in let first = c in by_count a.basis a.start a.end (omega (arith, first.if-basis-ge-BASES.false)) numbered.dates ∙ ap (λ n. first_row (row Days (ltb 366 n) ∷ []) (gives n)) (sym c.count_of-days.ensures) in
     sym (at_last ∙ simp (lt-ltb 366 c.count_of-days.result (omega (arith, c.if-days-gt366.true))))
 
 pub returns : goal.returns
 returns c =
     let call = c in
-    let start-exists : date_exists c.args.start ≡ true = sym c.date_exists.ensures ∙ c.if-not-date_exists.false in
-    let end-exists : date_exists c.args.end ≡ true = sym c.date_exists-2.ensures ∙ c.if-not-date_exists-2.false in
-    let numbered : Numbered call.args.start call.args.end c.day_number-from.result c.day_number-to.result = let third = c in let from = c.day_number-from.ensures in let to = c.day_number-to.ensures in record { dates = record { first = start-exists; second = end-exists; order = omega (arith, c.if-to-from.false, from, to) }; first = from; second = to } in
+    let start_exists : date_exists c.args.start ≡ true = sym c.date_exists.ensures ∙ c.if-not-date_exists.false in
+    let end_exists : date_exists c.args.end ≡ true = sym c.date_exists-2.ensures ∙ c.if-not-date_exists-2.false in
+    let numbered : Numbered call.args.start call.args.end c.day_number-from.result c.day_number-to.result = let third = c in let from = c.day_number-from.ensures in let to = c.day_number-to.ensures in record { dates = record { first = start_exists; second = end_exists; order = omega (arith, c.if-to-from.false, from, to) }; first = from; second = to } in
     let at_last : let a = call.args in let n = c.count_of-days.result in days_said a.basis a.start a.end ≡ first_row (row Days (ltb 366 n) ∷ []) (gives n) = let a = call.args in let first = c in by_count a.basis a.start a.end (omega (arith, first.if-basis-ge-BASES.false)) numbered.dates ∙ ap (λ n. first_row (row Days (ltb 366 n) ∷ []) (gives n)) (sym c.count_of-days.ensures) in
     sym (at_last ∙ simp (le-ltb 366 c.count_of-days.result (omega (arith, c.if-days-gt366.false))))

@@ -16,7 +16,9 @@ loop-i-init c = (search rules, fill_none 0 _ _)
 
 pub bounds-out-i : goal.bounds-out-i
 bounds-out-i c =
-    let long : length c.loop-i.out ≡ length c.args.out.now = let a = c.args in ap length c.loop-i.invariant.1 ∙ length_filled 0 (λ n. pos (get_or a.rows.now n 0)) a.out.now c.loop-i.i in
+    let long : length c.loop-i.out ≡ length c.args.out.now =
+    let a = c.args in
+    ap length c.loop-i.invariant.1 ∙ length_filled 0 (λ n. pos (get_or a.rows.now n 0)) a.out.now c.loop-i.i in
     omega (arith, long)
 
 pub loop-i-preserved : goal.loop-i-preserved
@@ -25,14 +27,16 @@ loop-i-preserved c = let start = c in
     let at = c.loop-i in
     let balance = get_or a.rows.now at.i 0 in
     let is = read_back c.signed.result c.signed.type_inv ∙ c.signed.ensures
-    ∙ held_within false balance (omega (arith, start.requires.0 at.i (omega arith))) in (
+    ∙ held_within false balance (omega (arith, start.requires.within at.i (omega arith))) in (
       omega arith,
       fill_more 0 (λ n. pos (get_or a.rows.now n 0)) a.out.now at.out at.i at.i _ at.invariant.1 (omega arith) is,
     )
 
 pub shape_of-out : goal.shape_of-out
 shape_of-out c =
-    let long : length c.loop-i.out ≡ length c.args.out.now = let a = c.args in ap length c.loop-i.invariant.1 ∙ length_filled 0 (λ n. pos (get_or a.rows.now n 0)) a.out.now c.loop-i.i in
+    let long : length c.loop-i.out ≡ length c.args.out.now =
+    let a = c.args in
+    ap length c.loop-i.invariant.1 ∙ length_filled 0 (λ n. pos (get_or a.rows.now n 0)) a.out.now c.loop-i.i in
     long
 
 pub returns : goal.returns

@@ -20,19 +20,25 @@ loop-i-init c = let a = c.args in
 
 pub shape_of-rows-then-balance-gt-L : goal.shape_of-rows-then-balance-gt-L
 shape_of-rows-then-balance-gt-L c =
-    let long : length c.loop-i.rows ≡ length c.args.rows.now = let a = c.args in ap length c.loop-i.invariant.3 ∙ length_filled 0 (balance_at a.principal a.rate) a.rows.now c.loop-i.i in
+    let long : length c.loop-i.rows ≡ length c.args.rows.now =
+    let a = c.args in
+    ap length c.loop-i.invariant.3 ∙ length_filled 0 (balance_at a.principal a.rate) a.rows.now c.loop-i.i in
     long
 
 pub returns-then-balance-gt-L : goal.returns-then-balance-gt-L
 returns-then-balance-gt-L c =
-    let long : length c.loop-i.rows ≡ length c.args.rows.now = let a = c.args in ap length c.loop-i.invariant.3 ∙ length_filled 0 (balance_at a.principal a.rate) a.rows.now c.loop-i.i in
+    let long : length c.loop-i.rows ≡ length c.args.rows.now =
+    let a = c.args in
+    ap length c.loop-i.invariant.3 ∙ length_filled 0 (balance_at a.principal a.rate) a.rows.now c.loop-i.i in
     let a = c.args in
     let at = c.loop-i in
     fills_not a.principal a.rate a.rows.now _ at.i at.balance (omega (arith, long)) at.invariant.1 c.if-balance-gt-L.true
 
 pub bounds-rows-i : goal.bounds-rows-i
 bounds-rows-i c =
-    let long : length c.loop-i.rows ≡ length c.args.rows.now = let a = c.args in ap length c.loop-i.invariant.3 ∙ length_filled 0 (balance_at a.principal a.rate) a.rows.now c.loop-i.i in
+    let long : length c.loop-i.rows ≡ length c.args.rows.now =
+    let a = c.args in
+    ap length c.loop-i.invariant.3 ∙ length_filled 0 (balance_at a.principal a.rate) a.rows.now c.loop-i.i in
     omega (arith, long)
 
 pub next-balance-requires : goal.next-balance-requires
@@ -40,12 +46,16 @@ next-balance-requires c = let start = c in record { within = c.if-balance-gt-L.f
 
 pub loop-i-smaller : goal.loop-i-smaller
 loop-i-smaller c =
-    let long : length c.loop-i.rows ≡ length c.args.rows.now = let a = c.args in ap length c.loop-i.invariant.3 ∙ length_filled 0 (balance_at a.principal a.rate) a.rows.now c.loop-i.i in
+    let long : length c.loop-i.rows ≡ length c.args.rows.now =
+    let a = c.args in
+    ap length c.loop-i.invariant.3 ∙ length_filled 0 (balance_at a.principal a.rate) a.rows.now c.loop-i.i in
     omega (arith, long)
 
 pub loop-i-preserved : goal.loop-i-preserved
 loop-i-preserved c =
-    let long : length c.loop-i.rows ≡ length c.args.rows.now = let a = c.args in ap length c.loop-i.invariant.3 ∙ length_filled 0 (balance_at a.principal a.rate) a.rows.now c.loop-i.i in
+    let long : length c.loop-i.rows ≡ length c.args.rows.now =
+    let a = c.args in
+    ap length c.loop-i.invariant.3 ∙ length_filled 0 (balance_at a.principal a.rate) a.rows.now c.loop-i.i in
     let a = c.args in
     let at = c.loop-i in (
       omega (arith, long),
@@ -56,12 +66,16 @@ loop-i-preserved c =
 
 pub shape_of-rows : goal.shape_of-rows
 shape_of-rows c =
-    let long : length c.loop-i.rows ≡ length c.args.rows.now = let a = c.args in ap length c.loop-i.invariant.3 ∙ length_filled 0 (balance_at a.principal a.rate) a.rows.now c.loop-i.i in
+    let long : length c.loop-i.rows ≡ length c.args.rows.now =
+    let a = c.args in
+    ap length c.loop-i.invariant.3 ∙ length_filled 0 (balance_at a.principal a.rate) a.rows.now c.loop-i.i in
     long
 
 pub returns : goal.returns
 returns c =
-    let long : length c.loop-i.rows ≡ length c.args.rows.now = let a = c.args in ap length c.loop-i.invariant.3 ∙ length_filled 0 (balance_at a.principal a.rate) a.rows.now c.loop-i.i in
+    let long : length c.loop-i.rows ≡ length c.args.rows.now =
+    let a = c.args in
+    ap length c.loop-i.invariant.3 ∙ length_filled 0 (balance_at a.principal a.rate) a.rows.now c.loop-i.i in
     let a = c.args in
     let at = c.loop-i in
     fills_all a.principal a.rate a.rows.now at.rows at.i (omega (arith, long)) at.invariant.2 at.invariant.3

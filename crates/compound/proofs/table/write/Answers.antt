@@ -25,11 +25,11 @@ slice_bounds-write_by-end c = sym (length-take-le _ _ (omega arith))
 
 pub write_by-requires : goal.write_by-requires
 write_by-requires c = let start = c in record {
-  grows = start.requires.0;
-  rows_in_bounds = has_room (row_count start.args.periods) _ _ (omega arith) start.requires.1.1;
+  grows = start.requires.grows;
+  rows_in_bounds = has_room (row_count start.args.periods) _ _ (omega arith) start.requires.periods_in_bounds;
 }
 
 pub returns : goal.returns
 returns c = let w = c.write_by in
     let a = c.args in
-    counted a.principal a.rate (row_count a.periods) _ a.out-1.now w.result w.new.1.1.1.0 w.ensures (omega arith)
+    counted a.principal a.rate (row_count a.periods) _ a.out.now w.result w.new.out w.ensures (omega arith)

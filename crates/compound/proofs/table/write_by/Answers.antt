@@ -8,18 +8,18 @@ pub copy-requires : goal.copy-requires
 copy-requires c = let f = c.fill in
     let start = c in
     let a = start.args in
-    let all = ready a.principal a.rate a.rows-1.now f.new.1.1.0 f.result f.ensures c.in-Passed.is
-    (length a.out-1.now) start.requires.1 in record { within = all.0; rows_in_bounds = all.1 }
+    let all = ready a.principal a.rate a.rows.now f.new.rows f.result f.ensures c.in-Passed.is
+    (length a.out.now) start.requires.rows_in_bounds in record { within = all.0; rows_in_bounds = all.1 }
 
 pub returns-in-Refused : goal.returns-in-Refused
 returns-in-Refused c = let f = c.fill in
     let a = c.args in
-    writes_not a.principal a.rate a.rows-1.now f.new.1.1.0 f.result f.ensures a.out-1.now
+    writes_not a.principal a.rate a.rows.now f.new.rows f.result f.ensures a.out.now
     c.in-Refused.refusal c.in-Refused.is
 
 pub returns-in-Passed : goal.returns-in-Passed
 returns-in-Passed c = let f = c.fill in
     let a = c.args in
     let w = c.copy in
-    writes_all a.principal a.rate a.rows-1.now f.new.1.1.0 f.result f.ensures c.in-Passed.is
-    a.out-1.now w.new.1.0 w.ensures
+    writes_all a.principal a.rate a.rows.now f.new.rows f.result f.ensures c.in-Passed.is
+    a.out.now w.new.out w.ensures

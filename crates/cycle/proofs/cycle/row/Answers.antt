@@ -12,65 +12,75 @@ use Rattle.cycle.proofs.RowBits.{Rowed, rowed_start, bits_below, power_within, r
 use Rattle.cycle.proofs.cycle.row.Goals as goal
 
 pub loop-i-init : goal.loop-i-init
-loop-i-init c = let a = c.args in rowed_start a.t1 a.t3 a.n
+loop-i-init c = let a = c.args in rowed_start a.weights a.held a.n
 
 pub overflow_mul-n : goal.overflow_mul-n
 overflow_mul-n c =
-    let long : length c.args.t1 ≡ 16 = search rules in
+    let long : length c.args.weights ≡ 16 = search rules in
     let s = c in
     let a = s.args in
-    omega (arith, product a.n (get_or a.t1 c.loop-i.i 0) (omega (arith, s.requires.0.most)) (weight_within a.t1 a.sum s.requires.0 long c.loop-i.i c.loop-i-test.true))
+    omega (arith, product a.n (get_or a.weights c.loop-i.i 0) (omega (arith, s.requires.weighed.most)) (weight_within a.weights a.sum s.requires.weighed long c.loop-i.i c.loop-i-test.true))
 
 pub overflow_mul-held : goal.overflow_mul-held
 overflow_mul-held c =
-    let long : length c.args.t1 ≡ 16 = search rules in
+    let long : length c.args.weights ≡ 16 = search rules in
     let s = c in
     let a = s.args in
     let i = c.loop-i.i in
-    let h : get_or a.t3 i 0 ≤ 10000 = omega (
+    let h : get_or a.held i 0 ≤ 10000 = omega (
       arith,
-      ap (λ (l : List ℕ). get_or l i 0) s.requires.1.1,
-      total_within a.t1 a.sum s.requires.0 long a.n i c.loop-i-test.true,
-      s.requires.0.most,
+      ap (λ (l : List ℕ). get_or l i 0) s.requires.n_lt_sum.1,
+      total_within a.weights a.sum s.requires.weighed long a.n i c.loop-i-test.true,
+      s.requires.weighed.most,
     ) in
-    omega (arith, product (get_or a.t3 i 0) a.sum h s.requires.0.most)
+    omega (arith, product (get_or a.held i 0) a.sum h s.requires.weighed.most)
 
 pub overflow_add-bits : goal.overflow_add-bits
 overflow_add-bits c =
-    let long : length c.args.t1 ≡ 16 = search rules in
-    let power : (c.loop-i.bits < 32768) × (c.loop-i.power ≤ 32768) = let s = c in let a = s.args in let l = c.loop-i in let h = power_within a.t1 a.sum s.requires.0 long a.n a.t3 s.requires.1.1 l.i l.bits l.power l.invariant c.loop-i-test.true in (omega (arith, h, bits_below a.t1 a.sum s.requires.0 long a.n a.t3 s.requires.1.1 l.i l.bits l.power l.invariant), h) in
+    let long : length c.args.weights ≡ 16 = search rules in
+    let power : (c.loop-i.bits < 32768) × (c.loop-i.power ≤ 32768) =
+    let s = c in
+    let a = s.args in
+    let l = c.loop-i in
+    let h = power_within a.weights a.sum s.requires.weighed long a.n a.held s.requires.n_lt_sum.1 l.i l.bits l.power l.invariant c.loop-i-test.true in
+    (omega (arith, h, bits_below a.weights a.sum s.requires.weighed long a.n a.held s.requires.n_lt_sum.1 l.i l.bits l.power l.invariant), h) in
     omega (arith, power)
 
 pub overflow_mul-power : goal.overflow_mul-power
 overflow_mul-power c =
-    let long : length c.args.t1 ≡ 16 = search rules in
-    let power : (c.loop-i.bits < 32768) × (c.loop-i.power ≤ 32768) = let s = c in let a = s.args in let l = c.loop-i in let h = power_within a.t1 a.sum s.requires.0 long a.n a.t3 s.requires.1.1 l.i l.bits l.power l.invariant c.loop-i-test.true in (omega (arith, h, bits_below a.t1 a.sum s.requires.0 long a.n a.t3 s.requires.1.1 l.i l.bits l.power l.invariant), h) in
+    let long : length c.args.weights ≡ 16 = search rules in
+    let power : (c.loop-i.bits < 32768) × (c.loop-i.power ≤ 32768) =
+    let s = c in
+    let a = s.args in
+    let l = c.loop-i in
+    let h = power_within a.weights a.sum s.requires.weighed long a.n a.held s.requires.n_lt_sum.1 l.i l.bits l.power l.invariant c.loop-i-test.true in
+    (omega (arith, h, bits_below a.weights a.sum s.requires.weighed long a.n a.held s.requires.n_lt_sum.1 l.i l.bits l.power l.invariant), h) in
     omega (arith, power)
 
 pub loop-i-preserved : goal.loop-i-preserved
 loop-i-preserved c =
-    let long : length c.args.t1 ≡ 16 = search rules in
+    let long : length c.args.weights ≡ 16 = search rules in
     let s = c in
     let a = s.args in
     let l = c.loop-i in
     let inside = c.loop-i-test.true in
     ⊎_elim
-    (λ w. rw w.1 (rowed_one a.t1 a.sum s.requires.0 long a.n a.t3 s.requires.1.1 l.i l.bits l.power l.invariant inside w.0.taken))
-    (λ w. rw w.1 (rowed_none a.t1 a.sum s.requires.0 long a.n a.t3 s.requires.1.1 l.i l.bits l.power l.invariant inside w.0.left))
+    (λ w. rw w.1 (rowed_one a.weights a.sum s.requires.weighed long a.n a.held s.requires.n_lt_sum.1 l.i l.bits l.power l.invariant inside w.0.taken))
+    (λ w. rw w.1 (rowed_none a.weights a.sum s.requires.weighed long a.n a.held s.requires.n_lt_sum.1 l.i l.bits l.power l.invariant inside w.0.left))
     c.if-n-weights.branch
 
 pub overflow_cast-result : goal.overflow_cast-result
 overflow_cast-result c =
-    let long : length c.args.t1 ≡ 16 = search rules in
+    let long : length c.args.weights ≡ 16 = search rules in
     let s = c in
     let a = s.args in
     let l = c.loop-i in
-    omega (arith, rowed_fits a.t1 a.sum s.requires.0 long a.n a.t3 s.requires.1.1 l.i l.bits l.power l.invariant c.loop-i-test.false)
+    omega (arith, rowed_fits a.weights a.sum s.requires.weighed long a.n a.held s.requires.n_lt_sum.1 l.i l.bits l.power l.invariant c.loop-i-test.false)
 
 pub returns : goal.returns
 returns c =
-    let long : length c.args.t1 ≡ 16 = search rules in
+    let long : length c.args.weights ≡ 16 = search rules in
     let s = c in
     let a = s.args in
     let l = c.loop-i in
-    rowed_end a.t1 a.sum s.requires.0 long a.n a.t3 s.requires.1.1 l.i l.bits l.power l.invariant c.loop-i-test.false
+    rowed_end a.weights a.sum s.requires.weighed long a.n a.held s.requires.n_lt_sum.1 l.i l.bits l.power l.invariant c.loop-i-test.false

@@ -11,11 +11,11 @@ use Rattle.division.proofs.Split.{quotient_most, over_first, whole_parts}
 use Rattle.division.proofs.Divides.{capped_divides}
 use Rattle.division.proofs.parts.by_parts.Goals as goal
 
-rest-is : (n d : ℕ) → n - n / d * d ≡ n % d
-rest-is n d = omega (arith, div-add-mod' n d)
+rest_is : (n d : ℕ) → n - n / d * d ≡ n % d
+rest_is n d = omega (arith, div-add-mod' n d)
 
-rest-less : (n d : ℕ) → 0 < d → n - n / d * d < d
-rest-less n d h = rw (rest-is n d) (mod-lt n h)
+rest_less : (n d : ℕ) → 0 < d → n - n / d * d < d
+rest_less n d h = rw (rest_is n d) (mod-lt n h)
 
 pub returns-then-is_over : goal.returns-then-is_over
 returns-then-is_over c = let a = c.args in
@@ -29,7 +29,7 @@ pub overflow_sub-a : goal.overflow_sub-a
 overflow_sub-a c = div-mul-le_self c.args.a c.args.d
 
 pub below_divisor-part-requires : goal.below_divisor-part-requires
-below_divisor-part-requires c = let s = c in (rest-less s.args.a s.args.d s.requires.1, s.requires.0, s.requires.2)
+below_divisor-part-requires c = let s = c in (rest_less s.args.a s.args.d s.requires.1, s.requires.0, s.requires.2)
 
 pub overflow_mul-times-2 : goal.overflow_mul-times-2
 overflow_mul-times-2 c =
@@ -39,7 +39,7 @@ overflow_mul-times-2 c =
 pub overflow_add-times : goal.overflow_add-times
 overflow_add-times c =
     let times : c.args.a / c.args.d * c.args.b ≤ most = let a = c.args in ltb-false most (a.a / a.d * a.b) (sym c.is_over.ensures ∙ c.if-is_over.false) in
-    let left : c.below_divisor-part.result.quotient ≤ c.args.b = let s = c in quotient_most (s.args.a - s.args.a / s.args.d * s.args.d) s.args.b s.args.d (rest-less s.args.a s.args.d s.requires.1) c.below_divisor-part.ensures in
+    let left : c.below_divisor-part.result.quotient ≤ c.args.b = let s = c in quotient_most (s.args.a - s.args.a / s.args.d * s.args.d) s.args.b s.args.d (rest_less s.args.a s.args.d s.requires.1) c.below_divisor-part.ensures in
     record { fits = omega (arith, times, left, c.requires.0) }
 
 pub returns : goal.returns
@@ -48,5 +48,5 @@ returns c = let s = c in
     let x = c.below_divisor-part in
     capped_divides a.a a.b a.d
     (whole_parts a.a a.b a.d s.requires.1
-    (subst (λ (r : ℕ). Parts (r * a.b) a.d x.result.quotient x.result.rest) (rest-is a.a a.d) x.ensures))
+    (subst (λ (r : ℕ). Parts (r * a.b) a.d x.result.quotient x.result.rest) (rest_is a.a a.d) x.ensures))
     c.cap.ensures

@@ -22,22 +22,44 @@ returns-then-field-ge1075 c = let f = c in
 
 pub overflow_mul-n : goal.overflow_mul-n
 overflow_mul-n c =
-    let mantissa-is : let f = c in c.mantissa.result ≡ mantissa_of (field_of f.args.bits) (digits_of f.args.bits) = let f = c in c.mantissa.ensures ∙ ap (λ (x : ℕ). mantissa_of x (digits_of f.args.bits)) f.field-field.ensures in
-    let power-is : c.power_of_ten.result ≡ 10 ^ c.args.scale = let s = c in c.power_of_ten.ensures ∙ power_of_ten_lem s.args.scale (omega (arith, s.requires)) in
-    let product-fits : c.mantissa.result * c.power_of_ten.result < 2 ^ 63 = let s = c in let q = c.mantissa.result in rw (mantissa-is, power-is) (scaled_fits (mantissa_of (field_of s.args.bits) (digits_of s.args.bits)) (10 ^ s.args.scale) (mantissa_fits (field_of s.args.bits) s.args.bits) (ten_fits s.args.scale s.requires)) in
+    let mantissa-is : let f = c in c.mantissa.result ≡ mantissa_of (field_of f.args.bits) (digits_of f.args.bits) =
+    let f = c in
+    c.mantissa.ensures ∙ ap (λ (x : ℕ). mantissa_of x (digits_of f.args.bits)) f.field-field.ensures in
+    let power-is : c.power_of_ten.result ≡ 10 ^ c.args.scale =
+    let s = c in
+    c.power_of_ten.ensures ∙ power_of_ten_lem s.args.scale (omega (arith, s.requires)) in
+    let product-fits : c.mantissa.result * c.power_of_ten.result < 2 ^ 63 =
+    let s = c in
+    let q = c.mantissa.result in
+    rw (mantissa-is, power-is)
+    (scaled_fits (mantissa_of (field_of s.args.bits) (digits_of s.args.bits)) (10 ^ s.args.scale) (mantissa_fits (field_of s.args.bits) s.args.bits)
+    (ten_fits s.args.scale s.requires)) in
     record { fits = omega (arith, product-fits) }
 
 pub over-requires : goal.over-requires
 over-requires c =
-    let mantissa-is : let f = c in c.mantissa.result ≡ mantissa_of (field_of f.args.bits) (digits_of f.args.bits) = let f = c in c.mantissa.ensures ∙ ap (λ (x : ℕ). mantissa_of x (digits_of f.args.bits)) f.field-field.ensures in
-    let power-is : c.power_of_ten.result ≡ 10 ^ c.args.scale = let s = c in c.power_of_ten.ensures ∙ power_of_ten_lem s.args.scale (omega (arith, s.requires)) in
-    let product-fits : c.mantissa.result * c.power_of_ten.result < 2 ^ 63 = let s = c in let q = c.mantissa.result in rw (mantissa-is, power-is) (scaled_fits (mantissa_of (field_of s.args.bits) (digits_of s.args.bits)) (10 ^ s.args.scale) (mantissa_fits (field_of s.args.bits) s.args.bits) (ten_fits s.args.scale s.requires)) in
+    let mantissa-is : let f = c in c.mantissa.result ≡ mantissa_of (field_of f.args.bits) (digits_of f.args.bits) =
+    let f = c in
+    c.mantissa.ensures ∙ ap (λ (x : ℕ). mantissa_of x (digits_of f.args.bits)) f.field-field.ensures in
+    let power-is : c.power_of_ten.result ≡ 10 ^ c.args.scale =
+    let s = c in
+    c.power_of_ten.ensures ∙ power_of_ten_lem s.args.scale (omega (arith, s.requires)) in
+    let product-fits : c.mantissa.result * c.power_of_ten.result < 2 ^ 63 =
+    let s = c in
+    let q = c.mantissa.result in
+    rw (mantissa-is, power-is)
+    (scaled_fits (mantissa_of (field_of s.args.bits) (digits_of s.args.bits)) (10 ^ s.args.scale) (mantissa_fits (field_of s.args.bits) s.args.bits)
+    (ten_fits s.args.scale s.requires)) in
     product-fits
 
 pub returns : goal.returns
 returns c =
-    let mantissa-is : let f = c in c.mantissa.result ≡ mantissa_of (field_of f.args.bits) (digits_of f.args.bits) = let f = c in c.mantissa.ensures ∙ ap (λ (x : ℕ). mantissa_of x (digits_of f.args.bits)) f.field-field.ensures in
-    let power-is : c.power_of_ten.result ≡ 10 ^ c.args.scale = let s = c in c.power_of_ten.ensures ∙ power_of_ten_lem s.args.scale (omega (arith, s.requires)) in
+    let mantissa-is : let f = c in c.mantissa.result ≡ mantissa_of (field_of f.args.bits) (digits_of f.args.bits) =
+    let f = c in
+    c.mantissa.ensures ∙ ap (λ (x : ℕ). mantissa_of x (digits_of f.args.bits)) f.field-field.ensures in
+    let power-is : c.power_of_ten.result ≡ 10 ^ c.args.scale =
+    let s = c in
+    c.power_of_ten.ensures ∙ power_of_ten_lem s.args.scale (omega (arith, s.requires)) in
     let o = c in
     let p = o in
     let s = p in

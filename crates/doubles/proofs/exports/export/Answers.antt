@@ -29,7 +29,12 @@ limits a e = let none = clear (rows_at a) e in (ltb-false largest (magnitude_of 
 pub quotient-requires : goal.quotient-requires
 quotient-requires c =
     let own : SFits w64 c.args.amount.coefficient = search rules in
-    let told : c.check.result ≡ check_of (rows_at c.args.amount) = let s = c in let a = s.args.amount in c.check.ensures ∙ ap (λ (m : ℕ). check_of (export_rows a.scale m a.currency)) (c.magnitude.ensures ∙ ap magnitude_of (to_z-of_z w64 a.coefficient own)) in
+    let told : c.check.result ≡ check_of (rows_at c.args.amount) =
+    let s = c in
+    let a = s.args.amount in
+    c.check.ensures
+    ∙ ap (λ (m : ℕ). check_of (export_rows a.scale m a.currency))
+    (c.magnitude.ensures ∙ ap magnitude_of (to_z-of_z w64 a.coefficient own)) in
     let k = c in
     let s = k in
     let a = s.args.amount in
@@ -39,7 +44,12 @@ pub returns-in-Refused : goal.returns-in-Refused
 unfolding export_said
 returns-in-Refused c =
     let own : SFits w64 c.args.amount.coefficient = search rules in
-    let told : c.check.result ≡ check_of (rows_at c.args.amount) = let s = c in let a = s.args.amount in c.check.ensures ∙ ap (λ (m : ℕ). check_of (export_rows a.scale m a.currency)) (c.magnitude.ensures ∙ ap magnitude_of (to_z-of_z w64 a.coefficient own)) in
+    let told : c.check.result ≡ check_of (rows_at c.args.amount) =
+    let s = c in
+    let a = s.args.amount in
+    c.check.ensures
+    ∙ ap (λ (m : ℕ). check_of (export_rows a.scale m a.currency))
+    (c.magnitude.ensures ∙ ap magnitude_of (to_z-of_z w64 a.coefficient own)) in
     let k = c in
     let a = k.args.amount in
     sym (refused (gives (exported a.coefficient a.scale)) (rows_at a) c.in-Refused.refusal (sym told ∙ c.in-Refused.is))
@@ -48,7 +58,12 @@ pub returns-in-Passed : goal.returns-in-Passed
 unfolding export_said
 returns-in-Passed c =
     let own : SFits w64 c.args.amount.coefficient = search rules in
-    let told : c.check.result ≡ check_of (rows_at c.args.amount) = let s = c in let a = s.args.amount in c.check.ensures ∙ ap (λ (m : ℕ). check_of (export_rows a.scale m a.currency)) (c.magnitude.ensures ∙ ap magnitude_of (to_z-of_z w64 a.coefficient own)) in
+    let told : c.check.result ≡ check_of (rows_at c.args.amount) =
+    let s = c in
+    let a = s.args.amount in
+    c.check.ensures
+    ∙ ap (λ (m : ℕ). check_of (export_rows a.scale m a.currency))
+    (c.magnitude.ensures ∙ ap magnitude_of (to_z-of_z w64 a.coefficient own)) in
     let t = c in
     let k = t in
     let s = k in

@@ -8,8 +8,11 @@ use Rattle.doubles.proofs.rows.made.Goals as goal
 
 pub amount_of-requires : goal.amount_of-requires
 amount_of-requires c =
-    let start = c in
-    let told : let a = start.args in c.check_columns.result ≡ check_of (held a.rule a.currency a.scale a.net a.tax) = let n = c in let t = n in c.check_columns.ensures ∙ same_check t.column-m.ensures t.column-n.ensures n.no_number.ensures n.no_number-2.ensures in
+    let start : goal.Start = c in
+    let told : let a = start.args in c.check_columns.result ≡ check_of (held a.rule a.currency a.scale a.net a.tax) =
+    let n = c in
+    let t = n in
+    c.check_columns.ensures ∙ same_check t.column-m.ensures t.column-n.ensures n.no_number.ensures n.no_number-2.ensures in
     let k = c in
     let a = start.args in
     rw k.column-m.ensures
@@ -17,8 +20,11 @@ amount_of-requires c =
 
 pub amount_of-requires-in-Passed : goal.amount_of-requires-in-Passed
 amount_of-requires-in-Passed c =
-    let start = c in
-    let told : let a = start.args in c.check_columns.result ≡ check_of (held a.rule a.currency a.scale a.net a.tax) = let n = c in let t = n in c.check_columns.ensures ∙ same_check t.column-m.ensures t.column-n.ensures n.no_number.ensures n.no_number-2.ensures in
+    let start : goal.Start = c in
+    let told : let a = start.args in c.check_columns.result ≡ check_of (held a.rule a.currency a.scale a.net a.tax) =
+    let n = c in
+    let t = n in
+    c.check_columns.ensures ∙ same_check t.column-m.ensures t.column-n.ensures n.no_number.ensures n.no_number-2.ensures in
     let t = c in
     let k = t in
     let a = start.args in
@@ -27,8 +33,11 @@ amount_of-requires-in-Passed c =
 
 pub returns-in-Refused : goal.returns-in-Refused
 returns-in-Refused c =
-    let start = c in
-    let told : let a = start.args in c.check_columns.result ≡ check_of (held a.rule a.currency a.scale a.net a.tax) = let n = c in let t = n in c.check_columns.ensures ∙ same_check t.column-m.ensures t.column-n.ensures n.no_number.ensures n.no_number-2.ensures in
+    let start : goal.Start = c in
+    let told : let a = start.args in c.check_columns.result ≡ check_of (held a.rule a.currency a.scale a.net a.tax) =
+    let n = c in
+    let t = n in
+    c.check_columns.ensures ∙ same_check t.column-m.ensures t.column-n.ensures n.no_number.ensures n.no_number-2.ensures in
     let k = c in
     let a = start.args in
     sym
@@ -37,8 +46,11 @@ returns-in-Refused c =
 
 pub returns-in-Passed : goal.returns-in-Passed
 returns-in-Passed c =
-    let start = c in
-    let told : let a = start.args in c.check_columns.result ≡ check_of (held a.rule a.currency a.scale a.net a.tax) = let n = c in let t = n in c.check_columns.ensures ∙ same_check t.column-m.ensures t.column-n.ensures n.no_number.ensures n.no_number-2.ensures in
+    let start : goal.Start = c in
+    let told : let a = start.args in c.check_columns.result ≡ check_of (held a.rule a.currency a.scale a.net a.tax) =
+    let n = c in
+    let t = n in
+    c.check_columns.ensures ∙ same_check t.column-m.ensures t.column-n.ensures n.no_number.ensures n.no_number-2.ensures in
     let t = c in
     let k = t in
     let a = start.args in

@@ -22,7 +22,9 @@ own_bits x bits holds e = ap (of_bits binary64) e ∙ of_bits-to_bits binary64 x
 pub made-requires : goal.made-requires
 unfolding given_rows
 made-requires c =
-    let scale-within : c.check_given.result ≡ Passed → c.args.scale ≤ last_scale = λ e. let a = c.args in ltb-false last_scale a.scale (clear (given_rows a.scale a.currency) (sym c.check_given.ensures ∙ e)).0 in
+    let scale-within : c.check_given.result ≡ Passed → c.args.scale ≤ last_scale = λ e.
+    let a = c.args in
+    ltb-false last_scale a.scale (clear (given_rows a.scale a.currency) (sym c.check_given.ensures ∙ e)).0 in
     let t = c in scale-within t.in-Passed.is
 
 pub returns-in-Refused : goal.returns-in-Refused

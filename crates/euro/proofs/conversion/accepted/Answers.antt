@@ -40,7 +40,10 @@ returns-then-from-to c =
 
 pub exchange-requires : goal.exchange-requires
 exchange-requires c =
-    let asked : let z = c.args.coefficient in (c.is_negative.result ≡ negative z) × (c.magnitude.result ≡ magnitude_of z) = let s = c in let read = read_back s.args.coefficient s.ranges.coefficient.sfits in (c.is_negative.ensures ∙ ap negative read, c.magnitude.ensures ∙ ap magnitude_of read) in
+    let asked : let z = c.args.coefficient in (c.is_negative.result ≡ negative z) × (c.magnitude.result ≡ magnitude_of z) =
+    let s = c in
+    let read = read_back s.args.coefficient s.ranges.coefficient.sfits in
+    (c.is_negative.ensures ∙ ap negative read, c.magnitude.ensures ∙ ap magnitude_of read) in
     let s = c in
     let a = s.args in
     let limits = within a.decimals a.scale (magnitude_of a.coefficient) a.from a.to s.requires in
@@ -49,7 +52,10 @@ exchange-requires c =
 pub returns : goal.returns
 unfolding converted
 returns c =
-    let asked : let z = c.args.coefficient in (c.is_negative.result ≡ negative z) × (c.magnitude.result ≡ magnitude_of z) = let s = c in let read = read_back s.args.coefficient s.ranges.coefficient.sfits in (c.is_negative.ensures ∙ ap negative read, c.magnitude.ensures ∙ ap magnitude_of read) in
+    let asked : let z = c.args.coefficient in (c.is_negative.result ≡ negative z) × (c.magnitude.result ≡ magnitude_of z) =
+    let s = c in
+    let read = read_back s.args.coefficient s.ranges.coefficient.sfits in
+    (c.is_negative.ensures ∙ ap negative read, c.magnitude.ensures ∙ ap magnitude_of read) in
     let e = c in
     let a = e.args in
     c.exchange.ensures

@@ -34,8 +34,13 @@ pub returns-then-step-gt-L : goal.returns-then-step-gt-L
 returns-then-step-gt-L c =
     let places : ℕ = decimals_of c.args.decimals c.args.from c.args.to in
     let step : ℤ = into_euro places c.args.from (signed_of c.args.negative c.args.m) in
-    let computed : c.into_euro-step.result ≡ capped (magnitude_of step) = let a = c.args in c.into_euro-step.ensures ∙ ap (λ (k : ℕ). capped (magnitude_of (into_euro k a.from (signed_of a.negative a.m)))) c.step_decimals-places.ensures in
-    let exchanges : onward places c.args.to step ≡ exchanged c.args.decimals c.args.from c.args.to (signed_of c.args.negative c.args.m) = let a = c.args in through a.decimals a.from a.to (signed_of a.negative a.m) (omega (arith, magnitude_signed a.negative a.m, c.requires.3)) c.requires.4 in
+    let computed : c.into_euro-step.result ≡ capped (magnitude_of step) =
+    let a = c.args in
+    c.into_euro-step.ensures
+    ∙ ap (λ (k : ℕ). capped (magnitude_of (into_euro k a.from (signed_of a.negative a.m)))) c.step_decimals-places.ensures in
+    let exchanges : onward places c.args.to step ≡ exchanged c.args.decimals c.args.from c.args.to (signed_of c.args.negative c.args.m) =
+    let a = c.args in
+    through a.decimals a.from a.to (signed_of a.negative a.m) (omega (arith, magnitude_signed a.negative a.m, c.requires.3)) c.requires.4 in
     let s = c in
     over-l places s.args.to step (subst (λ (n : ℕ). largest < n) computed c.if-step-gt-L.true) ∙ exchanges
 
@@ -52,8 +57,13 @@ pub returns : goal.returns
 returns c =
     let places : ℕ = decimals_of c.args.decimals c.args.from c.args.to in
     let step : ℤ = into_euro places c.args.from (signed_of c.args.negative c.args.m) in
-    let computed : c.into_euro-step.result ≡ capped (magnitude_of step) = let a = c.args in c.into_euro-step.ensures ∙ ap (λ (k : ℕ). capped (magnitude_of (into_euro k a.from (signed_of a.negative a.m)))) c.step_decimals-places.ensures in
-    let exchanges : onward places c.args.to step ≡ exchanged c.args.decimals c.args.from c.args.to (signed_of c.args.negative c.args.m) = let a = c.args in through a.decimals a.from a.to (signed_of a.negative a.m) (omega (arith, magnitude_signed a.negative a.m, c.requires.3)) c.requires.4 in
+    let computed : c.into_euro-step.result ≡ capped (magnitude_of step) =
+    let a = c.args in
+    c.into_euro-step.ensures
+    ∙ ap (λ (k : ℕ). capped (magnitude_of (into_euro k a.from (signed_of a.negative a.m)))) c.step_decimals-places.ensures in
+    let exchanges : onward places c.args.to step ≡ exchanged c.args.decimals c.args.from c.args.to (signed_of c.args.negative c.args.m) =
+    let a = c.args in
+    through a.decimals a.from a.to (signed_of a.negative a.m) (omega (arith, magnitude_signed a.negative a.m, c.requires.3)) c.requires.4 in
     let e = c in
     let s = e in
     let a = s.args in

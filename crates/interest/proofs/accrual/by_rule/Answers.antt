@@ -22,7 +22,10 @@ accrued-requires c = let days = c.days-1.given in
 
 pub returns-in-Refused : goal.returns-in-Refused
 returns-in-Refused c =
-    let asked : (c.is_negative-negative.result ≡ negative c.args.principal.coefficient) × (c.magnitude-m.result ≡ magnitude_of c.args.principal.coefficient) = let z = c.args.principal.coefficient in let fits : SFits w64 z = search rules in (c.is_negative-negative.ensures ∙ ap negative (to_z-of_z w64 z fits), c.magnitude-m.ensures ∙ ap magnitude_of (to_z-of_z w64 z fits)) in
+    let asked : (c.is_negative-negative.result ≡ negative c.args.principal.coefficient) × (c.magnitude-m.result ≡ magnitude_of c.args.principal.coefficient) =
+    let z = c.args.principal.coefficient in
+    let fits : SFits w64 z = search rules in
+    (c.is_negative-negative.ensures ∙ ap negative (to_z-of_z w64 z fits), c.magnitude-m.ensures ∙ ap magnitude_of (to_z-of_z w64 z fits)) in
     let s = c in
     let a = s.args in
     said_refused a.rule a.principal a.rate a.basis a.start a.end s.magnitude-m.result asked.1
@@ -30,7 +33,10 @@ returns-in-Refused c =
 
 pub returns-in-Refused-day_count : goal.returns-in-Refused-day_count
 returns-in-Refused-day_count c =
-    let asked : (c.is_negative-negative.result ≡ negative c.args.principal.coefficient) × (c.magnitude-m.result ≡ magnitude_of c.args.principal.coefficient) = let z = c.args.principal.coefficient in let fits : SFits w64 z = search rules in (c.is_negative-negative.ensures ∙ ap negative (to_z-of_z w64 z fits), c.magnitude-m.ensures ∙ ap magnitude_of (to_z-of_z w64 z fits)) in
+    let asked : (c.is_negative-negative.result ≡ negative c.args.principal.coefficient) × (c.magnitude-m.result ≡ magnitude_of c.args.principal.coefficient) =
+    let z = c.args.principal.coefficient in
+    let fits : SFits w64 z = search rules in
+    (c.is_negative-negative.ensures ∙ ap negative (to_z-of_z w64 z fits), c.magnitude-m.ensures ∙ ap magnitude_of (to_z-of_z w64 z fits)) in
     let refusal = c.refusal-in-Refused-day_count-1.given in
     let counted = c in
     let told = counted in
@@ -41,7 +47,10 @@ returns-in-Refused-day_count c =
 
 pub returns-in-Days : goal.returns-in-Days
 returns-in-Days c =
-    let asked : (c.is_negative-negative.result ≡ negative c.args.principal.coefficient) × (c.magnitude-m.result ≡ magnitude_of c.args.principal.coefficient) = let z = c.args.principal.coefficient in let fits : SFits w64 z = search rules in (c.is_negative-negative.ensures ∙ ap negative (to_z-of_z w64 z fits), c.magnitude-m.ensures ∙ ap magnitude_of (to_z-of_z w64 z fits)) in
+    let asked : (c.is_negative-negative.result ≡ negative c.args.principal.coefficient) × (c.magnitude-m.result ≡ magnitude_of c.args.principal.coefficient) =
+    let z = c.args.principal.coefficient in
+    let fits : SFits w64 z = search rules in
+    (c.is_negative-negative.ensures ∙ ap negative (to_z-of_z w64 z fits), c.magnitude-m.ensures ∙ ap magnitude_of (to_z-of_z w64 z fits)) in
     let days = c.days-1.given in
     let counted = c in
     let told = counted in

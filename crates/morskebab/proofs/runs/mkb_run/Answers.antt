@@ -8,7 +8,7 @@ pub returns : goal.returns
 returns c = let s = c in
     let a = s.args in
     let p = rw s.given_book.ensures at s.run-ran.ensures in
-    let e = served a.book a.refunds.now a.coefficients.now a.payouts-1.now a.numbers-1.now _ _ s.run-ran.result p in record {
+    let e = served a.book a.refunds.now a.coefficients.now a.payouts.now a.numbers.now _ _ s.run-ran.result p in record {
       said = c.flat_ran.ensures ∙ e;
       paid = rw c.flat_ran.ensures p.paid;
       numbered = rw c.flat_ran.ensures p.said;

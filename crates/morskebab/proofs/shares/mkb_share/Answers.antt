@@ -9,7 +9,7 @@ pub returns : goal.returns
 returns c = let s = c in
     let g = s in
     let a = g.args in
-    let said = simp g.given_amount.ensures at s.share-outcome.ensures.0 in record {
+    let said = simp g.given_amount.ensures at s.share-outcome.ensures.said in record {
       said = c.number.ensures ∙ said_number s.share-outcome.result (signed_shares a.a.coefficient a.weights.now) _ said;
-      places = simp g.given_amount.ensures at s.share-outcome.ensures.1;
+      places = simp g.given_amount.ensures at s.share-outcome.ensures.places;
     }

@@ -13,7 +13,7 @@ returns c = let s = c in
     let g = s in
     let a = g in
     let passed = simp (to_z-of_z w64 a.args.count a.ranges.count) at g.pass_u32.ensures in
-    let said = simp passed at s.vouchers-outcome.ensures.0 in record {
+    let said = simp passed at s.vouchers-outcome.ensures.said in record {
       said = c.number.ensures ∙ said_number s.vouchers-outcome.result (vouchers_of (passed32 a.args.count) a.args.weights.now) _ said;
-      places = simp passed at s.vouchers-outcome.ensures.1;
+      places = simp passed at s.vouchers-outcome.ensures.places;
     }

@@ -12,6 +12,6 @@ returns c = let a = c in
     let w = c.write-written in
     let currency = simp (to_z-of_z w64 a.args.currency a.ranges.currency) at c.given_currency.ensures in
     let start = simp (to_z-of_z w64 a.args.start a.ranges.start) at c.pass_u64.ensures in record {
-      said = c.flat_end.ensures ∙ end_said w.result _ (simp (currency, start) at w.ensures.0) (simp (currency, start) at w.ensures.1.0);
-      buffer = simp (currency, start) at w.ensures.1.1;
+      said = c.flat_end.ensures ∙ end_said w.result _ (simp (currency, start) at w.ensures.said) (simp (currency, start) at w.ensures.end);
+      buffer = simp (currency, start) at w.ensures.buffer;
     }

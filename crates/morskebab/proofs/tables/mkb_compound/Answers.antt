@@ -15,7 +15,7 @@ returns c = let s = c in
     let amount = g.given_amount.ensures in
     let rate = simp (to_z-of_z w64 a.args.rate a.ranges.rate) at g.pass_u32.ensures in
     let periods = simp (to_z-of_z w64 a.args.periods a.ranges.periods) at g.pass_u32-2.ensures in
-    let said = simp (amount, rate, periods) at s.compound-outcome.ensures.0 in record {
+    let said = simp (amount, rate, periods) at s.compound-outcome.ensures.said in record {
       said = c.number.ensures ∙ said_number s.compound-outcome.result (row_count (passed32 a.args.periods)) _ said;
-      places = simp (amount, rate, periods) at s.compound-outcome.ensures.1;
+      places = simp (amount, rate, periods) at s.compound-outcome.ensures.places;
     }

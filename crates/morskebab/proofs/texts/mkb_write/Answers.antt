@@ -10,5 +10,5 @@ use Rattle.morskebab.proofs.texts.mkb_write.Goals as goal
 pub returns : goal.returns
 returns c = let w = c in
     let a = w.args in
-    let out = a.out-1.now in
-    let writes = subst (λ (x : Amount). Writes (text_of x) (write_said x (length out)) out w.write-written.result w.write-written.new.1.0) w.given_amount.ensures w.write-written.ensures in record { said = c.flat_written.ensures ∙ ap written_of writes.answer; places = writes.left }
+    let out = a.out.now in
+    let writes = subst (λ (x : Amount). Writes (text_of x) (write_said x (length out)) out w.write-written.result w.write-written.new.out) w.given_amount.ensures w.write-written.ensures in record { said = c.flat_written.ensures ∙ ap written_of writes.answer; places = writes.left }

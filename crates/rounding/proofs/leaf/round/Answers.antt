@@ -15,13 +15,13 @@ use Rattle.rounding.proofs.Bounds.{raised_is, at_divisor, rise_has_rest, below_n
 use Rattle.rounding.proofs.leaf.round.Goals as goal
 
 -- the rest by a product and a difference
-rest-is : (n d : ℕ) → n - n / d * d ≡ n % d
-rest-is n d = omega (arith, div-add-mod' n d)
+rest_is : (n d : ℕ) → n - n / d * d ≡ n % d
+rest_is n d = omega (arith, div-add-mod' n d)
 
 -- it fits: the quotient rises only where there is a rest
-raised-fits : (b : Bool) (n d : ℕ) → n < 2 ^ 64 → 0 < d → (b ≡ true → 0 < n % d) → Fits w64 (n / d + bool_byte b)
-raised-fits true n d fit some rest = record { fits = omega (arith, below_numerator n d some (rest refl)) }
-raised-fits false n d fit some rest = record { fits = omega (arith, div-le_self n d) }
+raised_fits : (b : Bool) (n d : ℕ) → n < 2 ^ 64 → 0 < d → (b ≡ true → 0 < n % d) → Fits w64 (n / d + bool_byte b)
+raised_fits true n d fit some rest = record { fits = omega (arith, below_numerator n d some (rest refl)) }
+raised_fits false n d fit some rest = record { fits = omega (arith, div-le_self n d) }
 
 pub returns-then-d-eq0 : goal.returns-then-d-eq0
 unfolding rounded_magnitude
@@ -34,20 +34,20 @@ pub overflow_sub-n : goal.overflow_sub-n
 overflow_sub-n c = div-mul-le_self c.args.n c.args.d
 
 pub class-rest-requires : goal.class-rest-requires
-class-rest-requires c = let a = c.args in rw (rest-is a.n a.d) (mod-lt a.n (omega (arith, c.if-d-eq0.false)))
+class-rest-requires c = let a = c.args in rw (rest_is a.n a.d) (mod-lt a.n (omega (arith, c.if-d-eq0.false)))
 
 pub overflow_add-result : goal.overflow_add-result
 unfolding is_odd
 overflow_add-result c =
-    let asked : c.rises.result ≡ rises_by c.args.rule c.args.negative (is_odd (c.args.n / c.args.d)) (rest_of (c.args.n % c.args.d) c.args.d) = let a = c.args in c.rises.ensures ∙ ap (λ x. rises_by a.rule a.negative (is_odd (a.n / a.d)) x) (c.class-rest.ensures ∙ ap (λ (r : ℕ). rest_of r a.d) (rest-is a.n a.d)) in
+    let asked : c.rises.result ≡ rises_by c.args.rule c.args.negative (is_odd (c.args.n / c.args.d)) (rest_of (c.args.n % c.args.d) c.args.d) = let a = c.args in c.rises.ensures ∙ ap (λ x. rises_by a.rule a.negative (is_odd (a.n / a.d)) x) (c.class-rest.ensures ∙ ap (λ (r : ℕ). rest_of r a.d) (rest_is a.n a.d)) in
     let a = c.args in
-    raised-fits c.rises.result a.n a.d c.ranges.n.fits (omega (arith, c.if-d-eq0.false))
+    raised_fits c.rises.result a.n a.d c.ranges.n.fits (omega (arith, c.if-d-eq0.false))
     (λ e. rise_has_rest a.rule a.negative (is_odd (a.n / a.d)) (a.n % a.d) a.d (sym asked ∙ e))
 
 pub returns : goal.returns
 unfolding is_odd
 returns c =
-    let asked : c.rises.result ≡ rises_by c.args.rule c.args.negative (is_odd (c.args.n / c.args.d)) (rest_of (c.args.n % c.args.d) c.args.d) = let a = c.args in c.rises.ensures ∙ ap (λ x. rises_by a.rule a.negative (is_odd (a.n / a.d)) x) (c.class-rest.ensures ∙ ap (λ (r : ℕ). rest_of r a.d) (rest-is a.n a.d)) in
+    let asked : c.rises.result ≡ rises_by c.args.rule c.args.negative (is_odd (c.args.n / c.args.d)) (rest_of (c.args.n % c.args.d) c.args.d) = let a = c.args in c.rises.ensures ∙ ap (λ x. rises_by a.rule a.negative (is_odd (a.n / a.d)) x) (c.class-rest.ensures ∙ ap (λ (r : ℕ). rest_of r a.d) (rest_is a.n a.d)) in
     let a = c.args in
     raised_is c.rises.result (a.n / a.d) ∙ ap (λ b. raised b (a.n / a.d)) asked
     ∙ sym (at_divisor a.rule a.negative a.n a.d (omega (arith, c.if-d-eq0.false)))

@@ -17,7 +17,7 @@ loop-i-init c = (omega arith, fill_none 0 _ zeros)
 pub overflow_mul-full : goal.overflow_mul-full
 overflow_mul-full c = let a = c.args in
     let pre = c.requires in
-    let w : get_or a.t1 c.loop-i.i 0 ≤ 10000 = omega (arith, place_within a.t1 c.loop-i.i, pre.0, pre.2) in
+    let w : get_or a.weights c.loop-i.i 0 ≤ 10000 = omega (arith, place_within a.weights c.loop-i.i, pre.0, pre.2) in
     omega (arith, mul-le-mul pre.3 w)
 
 pub nonzero_div-full : goal.nonzero_div-full
@@ -26,13 +26,13 @@ nonzero_div-full c = c.requires.1
 pub loop-i-preserved : goal.loop-i-preserved
 loop-i-preserved c = let a = c.args in
     let l = c.loop-i in
-    (omega arith, fill_next (λ k. a.n * get_or a.t1 k 0 / a.sum) zeros l.full l.i (a.n * get_or a.t1 l.i 0 / a.sum) l.invariant.1 refl)
+    (omega arith, fill_next (λ k. a.n * get_or a.weights k 0 / a.sum) zeros l.full l.i (a.n * get_or a.weights l.i 0 / a.sum) l.invariant.1 refl)
 
 pub returns : goal.returns
 returns c = let a = c.args in
     let l = c.loop-i in
     let pre = c.requires in
-    let f : ℕ → ℕ = λ k. a.n * get_or a.t1 k 0 / a.sum in
+    let f : ℕ → ℕ = λ k. a.n * get_or a.weights k 0 / a.sum in
     let e : l.i ≡ 16 = omega arith in
     record {
       same = pre.0;
@@ -40,5 +40,5 @@ returns c = let a = c.args in
       most = pre.2;
       part = pre.3;
       shares = λ i b. ap (λ (x : _). get_or x i 0) (l.invariant.1 ∙ ap (λ (k : ℕ). filled 0 f k zeros) e) ∙ filled_place f zeros 16 i (omega arith) b
-          ∙ ap (λ (s : ℕ). a.n * get_or a.t1 i 0 / s) pre.0;
+          ∙ ap (λ (s : ℕ). a.n * get_or a.weights i 0 / s) pre.0;
     }

@@ -16,29 +16,37 @@ loop-i-init c = (omega arith, refl, omega arith)
 
 pub overflow_mul-reached : goal.overflow_mul-reached
 overflow_mul-reached c =
-    let reached : c.args.t * get_or c.args.t1 c.loop-i.i 0 ≤ 100000000 = let pre = c.requires in product c.args.t (get_or c.args.t1 c.loop-i.i 0) pre.early (pre.weigh c.loop-i.i c.loop-i-test.true) in
+    let reached : c.args.t * get_or c.args.weights c.loop-i.i 0 ≤ 100000000 =
+    let pre = c.requires in
+    product c.args.t (get_or c.args.weights c.loop-i.i 0) pre.early (pre.weigh c.loop-i.i c.loop-i-test.true) in
     omega (arith, reached)
 
 pub overflow_mul-taken : goal.overflow_mul-taken
 overflow_mul-taken c =
-    let taken : get_or c.args.t3 c.loop-i.i 0 * c.args.sum ≤ 100000000 = let pre = c.requires in product (get_or c.args.t3 c.loop-i.i 0) c.args.sum (pre.units c.loop-i.i c.loop-i-test.true) pre.most in
+    let taken : get_or c.args.full c.loop-i.i 0 * c.args.sum ≤ 100000000 =
+    let pre = c.requires in
+    product (get_or c.args.full c.loop-i.i 0) c.args.sum (pre.units c.loop-i.i c.loop-i-test.true) pre.most in
     omega (arith, taken)
 
 pub overflow_add-mass : goal.overflow_add-mass
 overflow_add-mass c =
-    let reached : c.args.t * get_or c.args.t1 c.loop-i.i 0 ≤ 100000000 = let pre = c.requires in product c.args.t (get_or c.args.t1 c.loop-i.i 0) pre.early (pre.weigh c.loop-i.i c.loop-i-test.true) in
+    let reached : c.args.t * get_or c.args.weights c.loop-i.i 0 ≤ 100000000 =
+    let pre = c.requires in
+    product c.args.t (get_or c.args.weights c.loop-i.i 0) pre.early (pre.weigh c.loop-i.i c.loop-i-test.true) in
     omega (arith, reached)
 
 pub loop-i-preserved : goal.loop-i-preserved
 loop-i-preserved c =
-    let reached : c.args.t * get_or c.args.t1 c.loop-i.i 0 ≤ 100000000 = let pre = c.requires in product c.args.t (get_or c.args.t1 c.loop-i.i 0) pre.early (pre.weigh c.loop-i.i c.loop-i-test.true) in
+    let reached : c.args.t * get_or c.args.weights c.loop-i.i 0 ≤ 100000000 =
+    let pre = c.requires in
+    product c.args.t (get_or c.args.weights c.loop-i.i 0) pre.early (pre.weigh c.loop-i.i c.loop-i-test.true) in
     let a = c.args in
     let i = c.loop-i.i in
-    let step = sum_step (λ k. a.t * get_or a.t1 k 0 - get_or a.t3 k 0 * a.sum) i in
+    let step = sum_step (λ k. a.t * get_or a.weights k 0 - get_or a.full k 0 * a.sum) i in
     let r = reached in
     ⊎_elim (λ w. (omega arith, omega arith, omega arith)) (λ w. (omega arith, omega arith, omega arith)) c.if-taken-reached.branch
 
 pub returns : goal.returns
 returns c = let a = c.args in
     let e : c.loop-i.i ≡ 16 = omega arith in
-    c.loop-i.invariant.1 ∙ ap (places_sum (λ k. a.t * get_or a.t1 k 0 - get_or a.t3 k 0 * a.sum)) e
+    c.loop-i.invariant.1 ∙ ap (places_sum (λ k. a.t * get_or a.weights k 0 - get_or a.full k 0 * a.sum)) e

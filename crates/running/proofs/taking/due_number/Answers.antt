@@ -16,12 +16,16 @@ returns-then-weight-eq0 c = let a = c.args in
 
 pub overflow_mul-reach : goal.overflow_mul-reach
 overflow_mul-reach c =
-    let bound : (c.args.units + 1) * c.args.sum ≤ 4294967296 * 4294967295 = let h : c.args.units + 1 ≤ 4294967296 = omega (arith, c.ranges.units.fits) in let k : c.args.sum ≤ 4294967295 = omega (arith, c.ranges.sum.fits) in mul-le-mul h k in
+    let bound : (c.args.units + 1) * c.args.sum ≤ 4294967296 * 4294967295 =
+    let h : c.args.units + 1 ≤ 4294967296 = omega (arith, c.ranges.units.fits) in
+    let k : c.args.sum ≤ 4294967295 = omega (arith, c.ranges.sum.fits) in mul-le-mul h k in
     omega (arith, bound)
 
 pub overflow_add-due : goal.overflow_add-due
 overflow_add-due c =
-    let bound : (c.args.units + 1) * c.args.sum ≤ 4294967296 * 4294967295 = let h : c.args.units + 1 ≤ 4294967296 = omega (arith, c.ranges.units.fits) in let k : c.args.sum ≤ 4294967295 = omega (arith, c.ranges.sum.fits) in mul-le-mul h k in
+    let bound : (c.args.units + 1) * c.args.sum ≤ 4294967296 * 4294967295 =
+    let h : c.args.units + 1 ≤ 4294967296 = omega (arith, c.ranges.units.fits) in
+    let k : c.args.sum ≤ 4294967295 = omega (arith, c.ranges.sum.fits) in mul-le-mul h k in
     omega (arith, bound, c.ranges.weight.fits)
 
 pub returns-then-due : goal.returns-then-due

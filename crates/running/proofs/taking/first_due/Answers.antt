@@ -20,16 +20,16 @@ product {a} {b} h k =
     let y : b ≤ 4294967295 = omega arith in mul-le-mul x y
 
 pub loop-i-init : goal.loop-i-init
-loop-i-init c = let a = c.args in start a.t1 a.sum a.t3 a.t4 a.t
+loop-i-init c = let a = c.args in start a.weights a.sum a.held a.due a.t
 
 pub overflow_mul-held : goal.overflow_mul-held
 overflow_mul-held c = let s = c in
-    let h : Fits w32 (get_or s.args.t3 c.loop-i.i 0) = search rules in
+    let h : Fits w32 (get_or s.args.held c.loop-i.i 0) = search rules in
     omega (arith, product h.fits s.ranges.sum.fits)
 
 pub overflow_mul-t : goal.overflow_mul-t
 overflow_mul-t c = let s = c in
-    let h : Fits w32 (get_or s.args.t1 c.loop-i.i 0) = search rules in
+    let h : Fits w32 (get_or s.args.weights c.loop-i.i 0) = search rules in
     omega (arith, product s.ranges.t.fits h.fits)
 
 pub loop-i-preserved : goal.loop-i-preserved
@@ -37,10 +37,10 @@ loop-i-preserved c = let a = c.args in
     let l = c.loop-i in
     let inside = c.loop-i-test.true in
     ⊎_elim
-    (λ w. rw (w.2, w.3) (sooner_due a.t1 a.sum a.t3 a.t4 a.t l.i l.best l.least l.invariant inside w.1.taken w.0.taken))
+    (λ w. rw (w.2, w.3) (sooner_due a.weights a.sum a.held a.due a.t l.i l.best l.least l.invariant inside w.1.taken w.0.taken))
     (λ v. ⊎_elim
-    (λ w. rw (w.2, w.3) (not_yet a.t1 a.sum a.t3 a.t4 a.t l.i l.best l.least l.invariant inside w.1.left w.0.taken))
-    (λ w. rw (w.1, w.2) (later a.t1 a.sum a.t3 a.t4 a.t l.i l.best l.least l.invariant inside w.0.left))
+    (λ w. rw (w.2, w.3) (not_yet a.weights a.sum a.held a.due a.t l.i l.best l.least l.invariant inside w.1.left w.0.taken))
+    (λ w. rw (w.1, w.2) (later a.weights a.sum a.held a.due a.t l.i l.best l.least l.invariant inside w.0.left))
     v)
     c.if-due-i.branch
 
@@ -49,5 +49,5 @@ unfolding first_due
 returns c = let a = c.args in
     let l = c.loop-i in
     let e : l.i ≡ 16 = omega (arith, l.invariant.upto) in
-    scan_end (may_now a.t1 a.sum a.t3 a.t4 a.t) (λ i. get_or a.t4 i 0) 16 l.best l.least
-    (subst (λ (k : ℕ). Scanned (may_now a.t1 a.sum a.t3 a.t4 a.t) (λ i. get_or a.t4 i 0) k l.best l.least) e l.invariant.found)
+    scan_end (may_now a.weights a.sum a.held a.due a.t) (λ i. get_or a.due i 0) 16 l.best l.least
+    (subst (λ (k : ℕ). Scanned (may_now a.weights a.sum a.held a.due a.t) (λ i. get_or a.due i 0) k l.best l.least) e l.invariant.found)

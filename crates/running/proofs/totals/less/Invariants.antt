@@ -11,6 +11,10 @@ use Rattle.whole.proofs.Lists.{fill_none, filled_behind}
 use Rattle.running.proofs.Places.{fill_next, filled_whole, length_less, less_place}
 use Rattle.running.proofs.totals.less.Given as goal
 
+-- what the loop stores at a place
+abbrev pub difference : List ℕ → List ℕ → ℕ → ℕ
+difference high low i = get_or high i 0 - get_or low i 0
+
 abbrev pub invariant-loop-i : goal.invariant-loop-i
 invariant-loop-i l = (l.i ≤ 16) × (l.rest ≡ filled 0 (difference l.initial.rest l.low) l.i l.initial.rest)
 

@@ -13,9 +13,9 @@ use Rattle.running.proofs.weights.sum_from.Goals as goal
 
 pub loop-i-init : goal.loop-i-init
 loop-i-init c =
-    let long : length c.args.t1 ≡ 16 = search rules in
+    let long : length c.args.weights ≡ 16 = search rules in
     let h = long in
-    (omega arith, sym (sum_past c.args.t1 16 (omega arith)), omega arith, λ b. refl)
+    (omega arith, sym (sum_past c.args.weights 16 (omega arith)), omega arith, λ b. refl)
 
 pub overflow_sub-i : goal.overflow_sub-i
 overflow_sub-i c = omega arith
@@ -28,12 +28,12 @@ bounds-weights-i c = omega arith
 
 pub overflow_cast-sum : goal.overflow_cast-sum
 overflow_cast-sum c =
-    let small : (i : ℕ) → get_or c.args.t1 i 0 < 2 ^ 32 = λ i. let h : Fits w32 (get_or c.args.t1 i 0) = search rules in h.fits in
+    let small : (i : ℕ) → get_or c.args.weights i 0 < 2 ^ 32 = λ i. let h : Fits w32 (get_or c.args.weights i 0) = search rules in h.fits in
     omega (arith, small (c.loop-i.i - 1))
 
 pub overflow_add-sum : goal.overflow_add-sum
 overflow_add-sum c =
-    let small : (i : ℕ) → get_or c.args.t1 i 0 < 2 ^ 32 = λ i. let h : Fits w32 (get_or c.args.t1 i 0) = search rules in h.fits in
+    let small : (i : ℕ) → get_or c.args.weights i 0 < 2 ^ 32 = λ i. let h : Fits w32 (get_or c.args.weights i 0) = search rules in h.fits in
     omega (arith, small (c.loop-i.i - 1))
 
 pub loop-i-smaller : goal.loop-i-smaller
@@ -41,25 +41,25 @@ loop-i-smaller c = omega arith
 
 pub loop-i-preserved : goal.loop-i-preserved
 loop-i-preserved c =
-    let long : length c.args.t1 ≡ 16 = search rules in
-    let small : (i : ℕ) → get_or c.args.t1 i 0 < 2 ^ 32 = λ i. let h : Fits w32 (get_or c.args.t1 i 0) = search rules in h.fits in
+    let long : length c.args.weights ≡ 16 = search rules in
+    let small : (i : ℕ) → get_or c.args.weights i 0 < 2 ^ 32 = λ i. let h : Fits w32 (get_or c.args.weights i 0) = search rules in h.fits in
     let h = long in
     let w = small (c.loop-i.i - 1) in
-    let ws = c.args.t1 in
+    let ws = c.args.weights in
     let i = c.loop-i.i in
     let earlier : sum_of (drop i ws) + get_or ws (i - 1) 0 ≡ sum_of (drop (i - 1) ws) = sum_earlier ws i (omega arith) (omega arith) in
     (omega arith, omega arith, omega arith, λ b. omega arith)
 
 pub returns : goal.returns
 returns c =
-    let long : length c.args.t1 ≡ 16 = search rules in
+    let long : length c.args.weights ≡ 16 = search rules in
     go (dec_lt c.loop-i.i c.args.from)
   where
-    go : Dec (c.loop-i.i < c.args.from) → c.loop-i.sum ≡ sum_of (drop c.args.from c.args.t1)
+    go : Dec (c.loop-i.i < c.args.from) → c.loop-i.sum ≡ sum_of (drop c.args.from c.args.weights)
     go (yes b) =
         let h = long in
         let e = c.loop-i.invariant.3 b in
-        omega (arith, sum_past c.args.t1 c.loop-i.i (omega arith), sum_past c.args.t1 c.args.from (omega arith))
+        omega (arith, sum_past c.args.weights c.loop-i.i (omega arith), sum_past c.args.weights c.args.from (omega arith))
     go (no b) =
         let e : c.loop-i.i ≡ c.args.from = omega arith in
-        c.loop-i.invariant.1 ∙ ap (λ (k : ℕ). sum_of (drop k c.args.t1)) e
+        c.loop-i.invariant.1 ∙ ap (λ (k : ℕ). sum_of (drop k c.args.weights)) e

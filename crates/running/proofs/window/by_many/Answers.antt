@@ -6,7 +6,7 @@ use Rattle.running.proofs.window.by_many.Goals as goal
 
 pub by_slots-requires : goal.by_slots-requires
 by_slots-requires c = let s = c in record {
-  shares = s.requires.0;
-  starts = s.requires.1;
-  empty = record { fits = omega (arith, s.requires.0.part); empty = refl };
+  shares = s.requires.shares;
+  starts = s.requires.starts;
+  empty = record { fits = omega (arith, s.requires.shares.part); empty = refl };
 }

@@ -39,22 +39,34 @@ loop-m-init c = let a = c.args in laid_start a.weight a.sum a.u a.first a.full a
 
 pub overflow_sub-slots : goal.overflow_sub-slots
 overflow_sub-slots c =
-    let after : c.args.u ≤ c.loop-m.q = let a = c.args in let l = c.loop-m in slot_after a.weight a.sum a.u a.first a.full a.slots.now c.requires l.m l.q l.r l.slots l.invariant c.loop-m-test.true in
+    let after : c.args.u ≤ c.loop-m.q =
+    let a = c.args in
+    let l = c.loop-m in
+    slot_after a.weight a.sum a.u a.first a.full a.slots.now c.requires l.m l.q l.r l.slots l.invariant c.loop-m-test.true in
     after
 
 pub overflow_cast-slots : goal.overflow_cast-slots
 overflow_cast-slots c =
-    let low : c.loop-m.q ≤ 100000000 = let a = c.args in let l = c.loop-m in slot_small a.weight a.sum a.u a.first a.full a.slots.now c.requires l.m l.q l.r l.slots l.invariant c.loop-m-test.true in
+    let low : c.loop-m.q ≤ 100000000 =
+    let a = c.args in
+    let l = c.loop-m in
+    slot_small a.weight a.sum a.u a.first a.full a.slots.now c.requires l.m l.q l.r l.slots l.invariant c.loop-m-test.true in
     omega (arith, low)
 
 pub offset_bounds-slots-q : goal.offset_bounds-slots-q
 offset_bounds-slots-q c =
-    let low : c.loop-m.q ≤ 100000000 = let a = c.args in let l = c.loop-m in slot_small a.weight a.sum a.u a.first a.full a.slots.now c.requires l.m l.q l.r l.slots l.invariant c.loop-m-test.true in
+    let low : c.loop-m.q ≤ 100000000 =
+    let a = c.args in
+    let l = c.loop-m in
+    slot_small a.weight a.sum a.u a.first a.full a.slots.now c.requires l.m l.q l.r l.slots l.invariant c.loop-m-test.true in
     omega (arith, low)
 
 pub bounds-slots-q : goal.bounds-slots-q
 bounds-slots-q c =
-    let inside : c.loop-m.q - c.args.u + 1 ≤ length c.loop-m.slots = let a = c.args in let l = c.loop-m in omega (arith, slot_in a.weight a.sum a.u a.first a.full a.slots.now c.requires l.m l.q l.r l.slots l.invariant c.loop-m-test.true) in
+    let inside : c.loop-m.q - c.args.u + 1 ≤ length c.loop-m.slots =
+    let a = c.args in
+    let l = c.loop-m in
+    omega (arith, slot_in a.weight a.sum a.u a.first a.full a.slots.now c.requires l.m l.q l.r l.slots l.invariant c.loop-m-test.true) in
     omega (arith, inside)
 
 pub overflow_add-slots : goal.overflow_add-slots
@@ -64,7 +76,10 @@ overflow_add-slots c = let a = c.args in
 
 pub bounds-slots-q-in-loop-m : goal.bounds-slots-q-in-loop-m
 bounds-slots-q-in-loop-m c =
-    let inside : c.loop-m.q - c.args.u + 1 ≤ length c.loop-m.slots = let a = c.args in let l = c.loop-m in omega (arith, slot_in a.weight a.sum a.u a.first a.full a.slots.now c.requires l.m l.q l.r l.slots l.invariant c.loop-m-test.true) in
+    let inside : c.loop-m.q - c.args.u + 1 ≤ length c.loop-m.slots =
+    let a = c.args in
+    let l = c.loop-m in
+    omega (arith, slot_in a.weight a.sum a.u a.first a.full a.slots.now c.requires l.m l.q l.r l.slots l.invariant c.loop-m-test.true) in
     omega (arith, inside)
 
 pub overflow_add-q : goal.overflow_add-q

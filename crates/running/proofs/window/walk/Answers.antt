@@ -15,8 +15,8 @@ loop-t-init c =
     let long : length c.args.weights ≡ 16 = search rules in
     let s = c in
     let a = s.args in (
-      rw s.requires.1.1.0 (walked_start a.weights a.sum a.n a.full a.u s.requires.0 s.requires.1.0 long),
-      marked_none a.weights a.sum a.n a.full s.requires.0 long c.due_numbers-due.result (search rules) c.due_numbers-due.ensures,
+      rw s.requires.taken_value (walked_start a.weights a.sum a.n a.full a.u s.requires.shares s.requires.starts long),
+      marked_none a.weights a.sum a.n a.full s.requires.shares long c.due_numbers-due.result (search rules) c.due_numbers-due.ensures,
     )
 
 pub overflow_sub-settled : goal.overflow_sub-settled
@@ -24,31 +24,65 @@ overflow_sub-settled c = c.loop-t.invariant.0.from
 
 pub bounds-slots-t : goal.bounds-slots-t
 bounds-slots-t c =
-    let inside : c.loop-t.t - c.args.u < length c.args.slots.now = let s = c in omega (arith, c.loop-t.invariant.0.from, s.requires.1.1.1.fits) in
+    let inside : c.loop-t.t - c.args.u < length c.args.slots.now =
+    let s = c in
+    omega (arith, c.loop-t.invariant.0.from, s.requires.listed.fits) in
     inside
 
 pub overflow_cast-settled-in-loop-t : goal.overflow_cast-settled-in-loop-t
 overflow_cast-settled-in-loop-t c =
     let long : length c.args.weights ≡ 16 = search rules in
-    let settled : c.loop-t.settled + get_or c.args.slots.now (c.loop-t.t - c.args.u) 0 ≤ 10016 = let s = c in let a = s.args in let l = c.loop-t in omega (arith, settled_within a.weights a.sum a.n a.full a.u s.requires.0 s.requires.1.0 long l.t l.ahead l.settled l.invariant.0 a.slots.now s.requires.1.1.1, s.requires.0.part) in
+    let settled : c.loop-t.settled + get_or c.args.slots.now (c.loop-t.t - c.args.u) 0 ≤ 10016 =
+    let s = c in
+    let a = s.args in
+    let l = c.loop-t in
+    omega (
+      arith,
+      settled_within a.weights a.sum a.n a.full a.u s.requires.shares s.requires.starts long l.t l.ahead l.settled l.invariant.0 a.slots.now s.requires.listed,
+      s.requires.shares.part,
+    ) in
     omega (arith, settled)
 
 pub overflow_add-settled : goal.overflow_add-settled
 overflow_add-settled c =
     let long : length c.args.weights ≡ 16 = search rules in
-    let settled : c.loop-t.settled + get_or c.args.slots.now (c.loop-t.t - c.args.u) 0 ≤ 10016 = let s = c in let a = s.args in let l = c.loop-t in omega (arith, settled_within a.weights a.sum a.n a.full a.u s.requires.0 s.requires.1.0 long l.t l.ahead l.settled l.invariant.0 a.slots.now s.requires.1.1.1, s.requires.0.part) in
+    let settled : c.loop-t.settled + get_or c.args.slots.now (c.loop-t.t - c.args.u) 0 ≤ 10016 =
+    let s = c in
+    let a = s.args in
+    let l = c.loop-t in
+    omega (
+      arith,
+      settled_within a.weights a.sum a.n a.full a.u s.requires.shares s.requires.starts long l.t l.ahead l.settled l.invariant.0 a.slots.now s.requires.listed,
+      s.requires.shares.part,
+    ) in
     omega (arith, settled)
 
 pub overflow_add-settled-then-settled-t : goal.overflow_add-settled-then-settled-t
 overflow_add-settled-then-settled-t c =
     let long : length c.args.weights ≡ 16 = search rules in
-    let settled : c.loop-t.settled + get_or c.args.slots.now (c.loop-t.t - c.args.u) 0 ≤ 10016 = let s = c in let a = s.args in let l = c.loop-t in omega (arith, settled_within a.weights a.sum a.n a.full a.u s.requires.0 s.requires.1.0 long l.t l.ahead l.settled l.invariant.0 a.slots.now s.requires.1.1.1, s.requires.0.part) in
+    let settled : c.loop-t.settled + get_or c.args.slots.now (c.loop-t.t - c.args.u) 0 ≤ 10016 =
+    let s = c in
+    let a = s.args in
+    let l = c.loop-t in
+    omega (
+      arith,
+      settled_within a.weights a.sum a.n a.full a.u s.requires.shares s.requires.starts long l.t l.ahead l.settled l.invariant.0 a.slots.now s.requires.listed,
+      s.requires.shares.part,
+    ) in
     omega (arith, settled)
 
 pub overflow_add-settled-then-p-lt-PARTNERS : goal.overflow_add-settled-then-p-lt-PARTNERS
 overflow_add-settled-then-p-lt-PARTNERS c =
     let long : length c.args.weights ≡ 16 = search rules in
-    let settled : c.loop-t.settled + get_or c.args.slots.now (c.loop-t.t - c.args.u) 0 ≤ 10016 = let s = c in let a = s.args in let l = c.loop-t in omega (arith, settled_within a.weights a.sum a.n a.full a.u s.requires.0 s.requires.1.0 long l.t l.ahead l.settled l.invariant.0 a.slots.now s.requires.1.1.1, s.requires.0.part) in
+    let settled : c.loop-t.settled + get_or c.args.slots.now (c.loop-t.t - c.args.u) 0 ≤ 10016 =
+    let s = c in
+    let a = s.args in
+    let l = c.loop-t in
+    omega (
+      arith,
+      settled_within a.weights a.sum a.n a.full a.u s.requires.shares s.requires.starts long l.t l.ahead l.settled l.invariant.0 a.slots.now s.requires.listed,
+      s.requires.shares.part,
+    ) in
     omega (arith, settled)
 
 pub loop-t-preserved : goal.loop-t-preserved
@@ -61,19 +95,19 @@ loop-t-preserved c =
     let inn = c.loop-t-test.true in
     ⊎_elim
     (λ w. rw (w.3, w.4, w.5) (
-      walked_straddle a.weights a.sum a.n a.full a.u s.requires.0 s.requires.1.0 long l.t l.ahead l.settled l.invariant.0 a.slots.now s.requires.1.1.1 inn
+      walked_straddle a.weights a.sum a.n a.full a.u s.requires.shares s.requires.starts long l.t l.ahead l.settled l.invariant.0 a.slots.now s.requires.listed inn
           l.due l.invariant.1 w.0.taken w.1.result w.1.ensures w.2.taken,
-      marked_one a.weights a.sum a.n a.full s.requires.0 long l.ahead l.due w.1.result
-          (long_ahead a.weights a.sum a.n a.full a.u s.requires.0 s.requires.1.0 long l.t l.ahead l.settled l.invariant.0 ∙ long) w.2.taken l.invariant.1,
+      marked_one a.weights a.sum a.n a.full s.requires.shares long l.ahead l.due w.1.result
+          (long_ahead a.weights a.sum a.n a.full a.u s.requires.shares s.requires.starts long l.t l.ahead l.settled l.invariant.0 ∙ long) w.2.taken l.invariant.1,
     ))
     (λ v. ⊎_elim
     (λ w. rw (w.3, w.4, w.5) (
-      walked_nobody a.weights a.sum a.n a.full a.u s.requires.0 s.requires.1.0 long l.t l.ahead l.settled l.invariant.0 a.slots.now s.requires.1.1.1 inn
+      walked_nobody a.weights a.sum a.n a.full a.u s.requires.shares s.requires.starts long l.t l.ahead l.settled l.invariant.0 a.slots.now s.requires.listed inn
           l.due l.invariant.1 w.0.taken w.1.result w.1.ensures w.2.left,
       l.invariant.1,
     ))
     (λ w. rw (w.1, w.2, w.3) (
-      walked_full a.weights a.sum a.n a.full a.u s.requires.0 s.requires.1.0 long l.t l.ahead l.settled l.invariant.0 a.slots.now s.requires.1.1.1 inn
+      walked_full a.weights a.sum a.n a.full a.u s.requires.shares s.requires.starts long l.t l.ahead l.settled l.invariant.0 a.slots.now s.requires.listed inn
           w.0.left,
       l.invariant.1,
     ))

@@ -34,7 +34,7 @@ loop-given-init c = (search rules, refl, refl)
 pub serve_one-requires : goal.serve_one-requires
 serve_one-requires c = let a = c.args in
     let at = c.loop-given in
-    let all = ready (record { shares = a.shares-1.now; unserved = a.rests-1.now }) at.given at.shares-1 at.rests-1 at.invariant.1 at.invariant.2
+    let all = ready (record { shares = a.shares.now; unserved = a.rests.now }) at.given at.shares at.rests at.invariant.1 at.invariant.2
     (omega arith) (omega arith) (omega arith) in record { in_bounds = all.0; rests_len = all.1.0; shares_bound = all.1.1 }
 
 pub loop-given-preserved : goal.loop-given-preserved
@@ -42,19 +42,19 @@ loop-given-preserved c = let a = c.args in
     let at = c.loop-given in
     let served = c.serve_one in
     let after =
-    next (record { shares = a.shares-1.now; unserved = a.rests-1.now }) at.given at.shares-1 at.rests-1 at.invariant.1 at.invariant.2
-    served.new.0 served.new.1.0 served.ensures.0 served.ensures.1 in
+    next (record { shares = a.shares.now; unserved = a.rests.now }) at.given at.shares at.rests at.invariant.1 at.invariant.2
+    served.new.shares served.new.rests served.ensures.shares served.ensures.rests in
     (omega arith, after.0, after.1)
 
 pub shape_of-shares : goal.shape_of-shares
 shape_of-shares c = let a = c.args in
-    ap length c.loop-given.invariant.1 ∙ shares_length c.loop-given.given (record { shares = a.shares-1.now; unserved = a.rests-1.now })
+    ap length c.loop-given.invariant.1 ∙ shares_length c.loop-given.given (record { shares = a.shares.now; unserved = a.rests.now })
 
 pub shape_of-rests : goal.shape_of-rests
 shape_of-rests c = let a = c.args in
-    ap length c.loop-given.invariant.2 ∙ unserved_length c.loop-given.given (record { shares = a.shares-1.now; unserved = a.rests-1.now })
+    ap length c.loop-given.invariant.2 ∙ unserved_length c.loop-given.given (record { shares = a.shares.now; unserved = a.rests.now })
 
 pub returns : goal.returns
 returns c = let a = c.args in
     c.loop-given.invariant.1
-    ∙ ap (λ (given : ℕ). (hand_out given (record { shares = a.shares-1.now; unserved = a.rests-1.now })).shares) (omega arith)
+    ∙ ap (λ (given : ℕ). (hand_out given (record { shares = a.shares.now; unserved = a.rests.now })).shares) (omega arith)

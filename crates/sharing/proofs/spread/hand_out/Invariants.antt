@@ -13,7 +13,7 @@ use Rattle.remainder.proofs.Handing.{shares_length, unserved_length, handed_sum}
 use Rattle.sharing.proofs.spread.hand_out.Given as goal
 
 abbrev pub invariant-loop-given : goal.invariant-loop-given
-invariant-loop-given l =    let h : Handed = record { l.shares = l.initial.shares; unserved = l.initial.rests } in
+invariant-loop-given l =    let h : Handed = record { shares = l.initial.shares; unserved = l.initial.rests } in
     (l.given ≤ l.units) × (l.shares ≡ (hand_out l.given h).shares) × (l.rests ≡ (hand_out l.given h).unserved)
 
 abbrev pub decreases-loop-given : goal.decreases-loop-given

@@ -20,8 +20,8 @@ slice_bounds-spread_by-end-4 c = sym (length-take-le _ _ (omega arith))
 
 pub spread_by-requires : goal.spread_by-requires
 spread_by-requires c = let start = c in record {
-  m_bound = start.requires.0;
-  allowed = just_enough start.args.weights.now (length start.args.out.now) _ start.requires.1.1 (length-take-le _ _ (omega arith));
+  m_bound = start.requires.m_bound;
+  allowed = just_enough start.args.weights.now (length start.args.out.now) _ start.requires.allowed (length-take-le _ _ (omega arith));
   shares_len = length-take-le _ _ (omega arith);
   rests_len = length-take-le _ _ (omega arith);
   out_len = length-take-le _ _ (omega arith);
@@ -29,4 +29,4 @@ spread_by-requires c = let start = c in record {
 
 pub returns : goal.returns
 returns c = let a = c.args in
-    ap (λ (front : List ℤ). front ++ drop (length a.weights.now) a.out-1.now) c.spread_by.ensures
+    ap (λ (front : List ℤ). front ++ drop (length a.weights.now) a.out.now) c.spread_by.ensures

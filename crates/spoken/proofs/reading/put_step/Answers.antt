@@ -8,16 +8,16 @@ use Rattle.spoken.proofs.reading.put_step.Goals as goal
 pub returns-then-not-step : goal.returns-then-not-step
 returns-then-not-step c = let a = c.args in
     let one = c.if-not-step.true in record {
-      signs_after = one_put a.step.two false a.step.negative a.place a.signs-1.now one _ c.put_sign.ensures;
-      values_after = one_put a.step.two a.step.front a.step.last a.place a.values-1.now one _ c.put_magnitude.ensures;
+      signs_after = one_put a.step.two false a.step.negative a.place a.signs.now one _ c.put_sign.ensures;
+      values_after = one_put a.step.two a.step.front a.step.last a.place a.values.now one _ c.put_magnitude.ensures;
     }
 
 pub returns : goal.returns
 returns c = let e = c in
     let a = e.args in
     let two = e.if-not-step.false in record {
-      signs_after = two_put a.step.two false a.step.negative a.place a.signs-1.now two _ e.put_sign-2.ensures _ e.add-behind.ensures _
+      signs_after = two_put a.step.two false a.step.negative a.place a.signs.now two _ e.put_sign-2.ensures _ e.add-behind.ensures _
           c.put_sign-3.ensures;
-      values_after = two_put a.step.two a.step.front a.step.last a.place a.values-1.now two _ e.put_magnitude-2.ensures _ e.add-behind.ensures _
+      values_after = two_put a.step.two a.step.front a.step.last a.place a.values.now two _ e.put_magnitude-2.ensures _ e.add-behind.ensures _
           c.put_magnitude-3.ensures;
     }

@@ -14,7 +14,7 @@ use Rattle.statement.proofs.Heads.{bad_by_head, bad_by_word, bad_by_code}
 use Rattle.statement.proofs.looking.bad_record.Goals as goal
 
 pub eight_at-requires : goal.eight_at-requires
-eight_at-requires c = omega (arith, c.requires.1, wide c.args.reasons)
+eight_at-requires c = omega (arith, c.requires.reasons_in_bounds, wide c.args.reasons)
 
 pub returns-then-bad_head : goal.returns-then-bad_head
 returns-then-bad_head c =
@@ -23,10 +23,10 @@ returns-then-bad_head c =
     bad_by_head a.reasons a.bytes.now (λ i. (c.shared_slice_known-1.given i).fits) a.agreed a.at (sym headed ∙ c.if-bad_head.true)
 
 pub overflow_add-at : goal.overflow_add-at
-overflow_add-at c = omega (arith, c.requires.1, wide c.args.reasons)
+overflow_add-at c = omega (arith, c.requires.reasons_in_bounds, wide c.args.reasons)
 
 pub eight_at-requires-2 : goal.eight_at-requires-2
-eight_at-requires-2 c = omega (arith, c.requires.1, wide c.args.reasons)
+eight_at-requires-2 c = omega (arith, c.requires.reasons_in_bounds, wide c.args.reasons)
 
 pub returns-then-bad_word : goal.returns-then-bad_word
 returns-then-bad_word c =

@@ -50,8 +50,14 @@ coefficient_at-requires c = let start = c in
 pub add-sum-requires : goal.add-sum-requires
 add-sum-requires c =
     let looked : c.bad_record.result ≡ bad_record c.args.reasons c.args.bytes.now (agreed_in c.args.bytes.now c.args.first) (record_place (record_width c.args.reasons) c.args.first c.loop-i.i) = c.bad_record.ensures ∙ ap₂ (bad_record c.args.reasons c.args.bytes.now) c.number_at-agreed.ensures c.loop-i.invariant.1 in
-    let still : any_of (λ k. bad_record c.args.reasons c.args.bytes.now (agreed_in c.args.bytes.now c.args.first) (record_place (record_width c.args.reasons) c.args.first k)) (c.loop-i.i + 1) ≡ false = let a = c.args in let at = c.loop-i in still_none (λ k. bad_record a.reasons a.bytes.now (agreed_in a.bytes.now a.first) (record_place (record_width a.reasons) a.first k)) at.i at.invariant.2 (sym looked ∙ c.if-bad_record.false) in
-    let small : Few (coefficients_in c.args.bytes.now (record_width c.args.reasons) c.args.first) (c.loop-i.i + 1) = let start = c in let a = start.args in all_small a.reasons a.bytes.now a.first (c.loop-i.i + 1) (omega (arith, start.requires.few, c.loop-i-test.true)) still in
+    let still : any_of (λ k. bad_record c.args.reasons c.args.bytes.now (agreed_in c.args.bytes.now c.args.first) (record_place (record_width c.args.reasons) c.args.first k)) (c.loop-i.i + 1) ≡ false =
+    let a = c.args in
+    let at = c.loop-i in
+    still_none (λ k. bad_record a.reasons a.bytes.now (agreed_in a.bytes.now a.first) (record_place (record_width a.reasons) a.first k)) at.i at.invariant.2 (sym looked ∙ c.if-bad_record.false) in
+    let small : Few (coefficients_in c.args.bytes.now (record_width c.args.reasons) c.args.first) (c.loop-i.i + 1) =
+    let start = c in
+    let a = start.args in
+    all_small a.reasons a.bytes.now a.first (c.loop-i.i + 1) (omega (arith, start.requires.few, c.loop-i-test.true)) still in
     let read : to_z w64 (of_z w64 c.coefficient_at.result) ≡ coefficients_in c.args.bytes.now (record_width c.args.reasons) c.args.first c.loop-i.i = read_back c.coefficient_at.result c.coefficient_at.type_inv ∙ c.coefficient_at.ensures ∙ ap (coefficient_at c.args.bytes.now) c.loop-i.invariant.1 in
     let a = c.args in
     let at = c.loop-i in
@@ -66,8 +72,14 @@ overflow_add-at c = let start = c in
 pub loop-i-preserved : goal.loop-i-preserved
 loop-i-preserved c =
     let looked : c.bad_record.result ≡ bad_record c.args.reasons c.args.bytes.now (agreed_in c.args.bytes.now c.args.first) (record_place (record_width c.args.reasons) c.args.first c.loop-i.i) = c.bad_record.ensures ∙ ap₂ (bad_record c.args.reasons c.args.bytes.now) c.number_at-agreed.ensures c.loop-i.invariant.1 in
-    let still : any_of (λ k. bad_record c.args.reasons c.args.bytes.now (agreed_in c.args.bytes.now c.args.first) (record_place (record_width c.args.reasons) c.args.first k)) (c.loop-i.i + 1) ≡ false = let a = c.args in let at = c.loop-i in still_none (λ k. bad_record a.reasons a.bytes.now (agreed_in a.bytes.now a.first) (record_place (record_width a.reasons) a.first k)) at.i at.invariant.2 (sym looked ∙ c.if-bad_record.false) in
-    let small : Few (coefficients_in c.args.bytes.now (record_width c.args.reasons) c.args.first) (c.loop-i.i + 1) = let start = c in let a = start.args in all_small a.reasons a.bytes.now a.first (c.loop-i.i + 1) (omega (arith, start.requires.few, c.loop-i-test.true)) still in
+    let still : any_of (λ k. bad_record c.args.reasons c.args.bytes.now (agreed_in c.args.bytes.now c.args.first) (record_place (record_width c.args.reasons) c.args.first k)) (c.loop-i.i + 1) ≡ false =
+    let a = c.args in
+    let at = c.loop-i in
+    still_none (λ k. bad_record a.reasons a.bytes.now (agreed_in a.bytes.now a.first) (record_place (record_width a.reasons) a.first k)) at.i at.invariant.2 (sym looked ∙ c.if-bad_record.false) in
+    let small : Few (coefficients_in c.args.bytes.now (record_width c.args.reasons) c.args.first) (c.loop-i.i + 1) =
+    let start = c in
+    let a = start.args in
+    all_small a.reasons a.bytes.now a.first (c.loop-i.i + 1) (omega (arith, start.requires.few, c.loop-i-test.true)) still in
     let read : to_z w64 (of_z w64 c.coefficient_at.result) ≡ coefficients_in c.args.bytes.now (record_width c.args.reasons) c.args.first c.loop-i.i = read_back c.coefficient_at.result c.coefficient_at.type_inv ∙ c.coefficient_at.ensures ∙ ap (coefficient_at c.args.bytes.now) c.loop-i.invariant.1 in
     let a = c.args in
     let at = c.loop-i in (
@@ -79,12 +91,34 @@ loop-i-preserved c =
 
 pub returns-then-word_of-word : goal.returns-then-word_of-word
 returns-then-word_of-word c =
-    let none : any_of (λ k. bad_record c.args.reasons c.args.bytes.now (agreed_in c.args.bytes.now c.args.first) (record_place (record_width c.args.reasons) c.args.first k)) c.args.count ≡ false = let a = c.args in let at = c.loop-i in let all : a.count ≡ at.i = omega arith in ap (any_of (λ k. bad_record a.reasons a.bytes.now (agreed_in a.bytes.now a.first) (record_place (record_width a.reasons) a.first k))) all ∙ at.invariant.2 in
-    let word : c.word_of.result ≡ word_of (total_of (coefficients_in c.args.bytes.now (record_width c.args.reasons) c.args.first) c.args.count) = let start = c in let a = start.args in let at = c.loop-i in let all : at.i ≡ a.count = omega arith in let f : ℕ → ℤ = (coefficients_in a.bytes.now (record_width a.reasons) a.first) in c.word_of.ensures ∙ ap word_of (sum_read f a.count (all_small a.reasons a.bytes.now a.first a.count start.requires.few none) at.i at.sum at.invariant.3 (omega arith) ∙ ap (total_of f) all) in
+    let none : any_of (λ k. bad_record c.args.reasons c.args.bytes.now (agreed_in c.args.bytes.now c.args.first) (record_place (record_width c.args.reasons) c.args.first k)) c.args.count ≡ false =
+    let a = c.args in
+    let at = c.loop-i in
+    let all : a.count ≡ at.i = omega arith in
+    ap (any_of (λ k. bad_record a.reasons a.bytes.now (agreed_in a.bytes.now a.first) (record_place (record_width a.reasons) a.first k))) all ∙ at.invariant.2 in
+    let word : c.word_of.result ≡ word_of (total_of (coefficients_in c.args.bytes.now (record_width c.args.reasons) c.args.first) c.args.count) =
+    let start = c in
+    let a = start.args in
+    let at = c.loop-i in
+    let all : at.i ≡ a.count = omega arith in
+    let f : ℕ → ℤ = (coefficients_in a.bytes.now (record_width a.reasons) a.first) in
+    c.word_of.ensures
+    ∙ ap word_of (sum_read f a.count (all_small a.reasons a.bytes.now a.first a.count start.requires.few none) at.i at.sum at.invariant.3 (omega arith) ∙ ap (total_of f) all) in
     rw (none, ne_eqb _ _ (λ e. c.if-word_of-word.true (word ∙ e)))
 
 pub returns : goal.returns
 returns c =
-    let none : any_of (λ k. bad_record c.args.reasons c.args.bytes.now (agreed_in c.args.bytes.now c.args.first) (record_place (record_width c.args.reasons) c.args.first k)) c.args.count ≡ false = let a = c.args in let at = c.loop-i in let all : a.count ≡ at.i = omega arith in ap (any_of (λ k. bad_record a.reasons a.bytes.now (agreed_in a.bytes.now a.first) (record_place (record_width a.reasons) a.first k))) all ∙ at.invariant.2 in
-    let word : c.word_of.result ≡ word_of (total_of (coefficients_in c.args.bytes.now (record_width c.args.reasons) c.args.first) c.args.count) = let start = c in let a = start.args in let at = c.loop-i in let all : at.i ≡ a.count = omega arith in let f : ℕ → ℤ = (coefficients_in a.bytes.now (record_width a.reasons) a.first) in c.word_of.ensures ∙ ap word_of (sum_read f a.count (all_small a.reasons a.bytes.now a.first a.count start.requires.few none) at.i at.sum at.invariant.3 (omega arith) ∙ ap (total_of f) all) in
+    let none : any_of (λ k. bad_record c.args.reasons c.args.bytes.now (agreed_in c.args.bytes.now c.args.first) (record_place (record_width c.args.reasons) c.args.first k)) c.args.count ≡ false =
+    let a = c.args in
+    let at = c.loop-i in
+    let all : a.count ≡ at.i = omega arith in
+    ap (any_of (λ k. bad_record a.reasons a.bytes.now (agreed_in a.bytes.now a.first) (record_place (record_width a.reasons) a.first k))) all ∙ at.invariant.2 in
+    let word : c.word_of.result ≡ word_of (total_of (coefficients_in c.args.bytes.now (record_width c.args.reasons) c.args.first) c.args.count) =
+    let start = c in
+    let a = start.args in
+    let at = c.loop-i in
+    let all : at.i ≡ a.count = omega arith in
+    let f : ℕ → ℤ = (coefficients_in a.bytes.now (record_width a.reasons) a.first) in
+    c.word_of.ensures
+    ∙ ap word_of (sum_read f a.count (all_small a.reasons a.bytes.now a.first a.count start.requires.few none) at.i at.sum at.invariant.3 (omega arith) ∙ ap (total_of f) all) in
     rw (none, eq-eqb _ _ (sym word ∙ c.if-word_of-word.false))

@@ -19,7 +19,11 @@ overflow_add-out c = omega arith
 
 pub bounds-out-at : goal.bounds-out-at
 bounds-out-at c =
-    let long : length c.loop-i.out ≡ length c.args.out.now = let a = c.args in let new = little_endian a.count a.number in ap length c.loop-i.invariant.1 ∙ length-paste a.out.now a.at new c.loop-i.i (omega (arith, c.requires)) (omega (arith, length_little a.count a.number)) in
+    let long : length c.loop-i.out ≡ length c.args.out.now =
+    let a = c.args in
+    let new = little_endian a.count a.number in
+    ap length c.loop-i.invariant.1
+    ∙ length-paste a.out.now a.at new c.loop-i.i (omega (arith, c.requires)) (omega (arith, length_little a.count a.number)) in
     omega (arith, long)
 
 pub loop-i-preserved : goal.loop-i-preserved
@@ -33,7 +37,11 @@ loop-i-preserved c = let start = c in
 
 pub shape_of-out : goal.shape_of-out
 shape_of-out c =
-    let long : length c.loop-i.out ≡ length c.args.out.now = let a = c.args in let new = little_endian a.count a.number in ap length c.loop-i.invariant.1 ∙ length-paste a.out.now a.at new c.loop-i.i (omega (arith, c.requires)) (omega (arith, length_little a.count a.number)) in
+    let long : length c.loop-i.out ≡ length c.args.out.now =
+    let a = c.args in
+    let new = little_endian a.count a.number in
+    ap length c.loop-i.invariant.1
+    ∙ length-paste a.out.now a.at new c.loop-i.i (omega (arith, c.requires)) (omega (arith, length_little a.count a.number)) in
     long
 
 pub returns : goal.returns

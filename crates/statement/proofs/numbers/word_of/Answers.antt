@@ -16,7 +16,9 @@ pub overflow_add-result : goal.overflow_add-result
 overflow_add-result c =
     let sign : c.is_negative.result ≡ negative c.args.coefficient = c.is_negative.ensures ∙ ap negative (to_z-of_z w64 c.args.coefficient c.ranges.coefficient) in
     let asked : c.magnitude-m.result ≡ magnitude_of c.args.coefficient = c.magnitude-m.ensures ∙ ap magnitude_of (to_z-of_z w64 c.args.coefficient c.ranges.coefficient) in
-    let some : 0 < c.magnitude-m.result = let z = c.args.coefficient in rw asked (above z (sym sign ∙ c.if-is_negative.true)) in
+    let some : 0 < c.magnitude-m.result =
+    let z = c.args.coefficient in
+    rw asked (above z (sym sign ∙ c.if-is_negative.true)) in
     omega (arith, some)
 
 pub returns-then-is_negative : goal.returns-then-is_negative

@@ -18,19 +18,25 @@ check_trailer-requires c = omega (arith, c.width_of_lem.ensures, narrow c.args.r
 
 pub overflow_sub-place : goal.overflow_sub-place
 overflow_sub-place c =
-    let asked : c.check_trailer.result ≡ check_of (trailer_rows (record_width c.args.reasons) (version_of c.args.reasons) c.args.place c.trailer_at-trailer.result) = c.check_trailer.ensures ∙ ap₂ (λ (w v : ℕ). check_of (trailer_rows w v c.args.place c.trailer_at-trailer.result)) c.width_of_lem.ensures c.version_of.ensures in
+    let asked : c.check_trailer.result ≡ check_of (trailer_rows (record_width c.args.reasons) (version_of c.args.reasons) c.args.place c.trailer_at-trailer.result) =
+    c.check_trailer.ensures
+    ∙ ap₂ (λ (w v : ℕ). check_of (trailer_rows w v c.args.place c.trailer_at-trailer.result)) c.width_of_lem.ensures c.version_of.ensures in
     let told : Trailing (record_width c.args.reasons) (version_of c.args.reasons) c.args.place c.trailer_at-trailer.result = trailing (record_width c.args.reasons) (version_of c.args.reasons) c.args.place c.trailer_at-trailer.result (sym asked ∙ c.in-Passed.is) in
     told.inside
 
 pub check_records-requires : goal.check_records-requires
 check_records-requires c =
-    let asked : c.check_trailer.result ≡ check_of (trailer_rows (record_width c.args.reasons) (version_of c.args.reasons) c.args.place c.trailer_at-trailer.result) = c.check_trailer.ensures ∙ ap₂ (λ (w v : ℕ). check_of (trailer_rows w v c.args.place c.trailer_at-trailer.result)) c.width_of_lem.ensures c.version_of.ensures in
+    let asked : c.check_trailer.result ≡ check_of (trailer_rows (record_width c.args.reasons) (version_of c.args.reasons) c.args.place c.trailer_at-trailer.result) =
+    c.check_trailer.ensures
+    ∙ ap₂ (λ (w v : ℕ). check_of (trailer_rows w v c.args.place c.trailer_at-trailer.result)) c.width_of_lem.ensures c.version_of.ensures in
     let told : Trailing (record_width c.args.reasons) (version_of c.args.reasons) c.args.place c.trailer_at-trailer.result = trailing (record_width c.args.reasons) (version_of c.args.reasons) c.args.place c.trailer_at-trailer.result (sym asked ∙ c.in-Passed.is) in
     let k = told in record { ends = omega (arith, k.far, k.inside, c.requires); few = k.few }
 
 pub returns-in-Refused : goal.returns-in-Refused
 returns-in-Refused c =
-    let asked : c.check_trailer.result ≡ check_of (trailer_rows (record_width c.args.reasons) (version_of c.args.reasons) c.args.place c.trailer_at-trailer.result) = c.check_trailer.ensures ∙ ap₂ (λ (w v : ℕ). check_of (trailer_rows w v c.args.place c.trailer_at-trailer.result)) c.width_of_lem.ensures c.version_of.ensures in
+    let asked : c.check_trailer.result ≡ check_of (trailer_rows (record_width c.args.reasons) (version_of c.args.reasons) c.args.place c.trailer_at-trailer.result) =
+    c.check_trailer.ensures
+    ∙ ap₂ (λ (w v : ℕ). check_of (trailer_rows w v c.args.place c.trailer_at-trailer.result)) c.width_of_lem.ensures c.version_of.ensures in
     let a = c.args in
     let t = c.trailer_at-trailer in
     sym
@@ -40,7 +46,9 @@ returns-in-Refused c =
 
 pub returns-in-Passed : goal.returns-in-Passed
 returns-in-Passed c =
-    let asked : c.check_trailer.result ≡ check_of (trailer_rows (record_width c.args.reasons) (version_of c.args.reasons) c.args.place c.trailer_at-trailer.result) = c.check_trailer.ensures ∙ ap₂ (λ (w v : ℕ). check_of (trailer_rows w v c.args.place c.trailer_at-trailer.result)) c.width_of_lem.ensures c.version_of.ensures in
+    let asked : c.check_trailer.result ≡ check_of (trailer_rows (record_width c.args.reasons) (version_of c.args.reasons) c.args.place c.trailer_at-trailer.result) =
+    c.check_trailer.ensures
+    ∙ ap₂ (λ (w v : ℕ). check_of (trailer_rows w v c.args.place c.trailer_at-trailer.result)) c.width_of_lem.ensures c.version_of.ensures in
     let a = c.args in
     let t = c.trailer_at-trailer in
     c.check_records.ensures

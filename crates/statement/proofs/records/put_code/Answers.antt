@@ -23,4 +23,4 @@ returns c = let a = c.args in
     let bytes = c.code_bytes-bytes.ensures in
     c.put_number-2.ensures
     ∙ ap₂ (λ (n : ℕ) (l : List ℕ). pasted (16 + c.code_bytes-bytes.result) (little_endian n 0) l) c.code_zeros.ensures c.put_number.ensures
-    ∙ ap (λ (n : ℕ). pasted (16 + n) (little_endian (code_zeros a.reasons) 0) (pasted 16 (little_endian n a.reason) a.out-1.now)) bytes
+    ∙ ap (λ (n : ℕ). pasted (16 + n) (little_endian (code_zeros a.reasons) 0) (pasted 16 (little_endian n a.reason) a.out.now)) bytes

@@ -39,4 +39,4 @@ returns c = let start = c in
     (c.put_number-3.ensures
     ∙ ap (pasted 4 (little_endian 4 0)) (c.put_number-2.ensures ∙ ap (pasted 2 (little_endian 2 a.currency.0)) c.put_number.ensures))
     word)
-    ∙ puts_are a.out-1.now (record_fields a.reasons (record { place = a.place; currency = a.currency.0; coefficient = a.coefficient; reason = a.reason }))
+    ∙ puts_are a.out.now (record_fields a.reasons (record { place = a.place; currency = a.currency.0; coefficient = a.coefficient; reason = a.reason }))

@@ -17,7 +17,7 @@ use Rattle.statement.proofs.records.put_record_at.Goals as goal
 pub returns : goal.returns
 returns c = let start = c in
     let a = start.args in
-    let old = a.out-1.now in
+    let old = a.out.now in
     let held = to_z w64 (of_z w64 a.coefficient) in
     ap (λ (ys : List ℕ). take a.at old ++ (ys ++ drop (length old - a.at) (drop a.at old))) c.put_record.ensures
     ∙ paste_lent a.at (record_bytes a.reasons (record { place = a.place; currency = a.currency.0; coefficient = held; reason = a.reason })) old (omega arith)

@@ -23,4 +23,4 @@ returns c = let start = c in
     (c.put_number-3.ensures
     ∙ ap₂ (λ (l : List ℕ) (w : ℕ). pasted 8 (little_endian 8 w) l)
     (c.put_number-2.ensures ∙ ap (pasted 4 (little_endian 4 a.count)) c.put_number.ensures) word))
-    ∙ puts_are a.out-1.now (trailer_fields (a.width * a.count) a.count a.sum a.version)
+    ∙ puts_are a.out.now (trailer_fields (a.width * a.count) a.count a.sum a.version)

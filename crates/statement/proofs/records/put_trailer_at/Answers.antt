@@ -17,7 +17,7 @@ use Rattle.statement.proofs.records.put_trailer_at.Goals as goal
 pub returns : goal.returns
 returns c = let start = c in
     let a = start.args in
-    let old = a.out-1.now in
+    let old = a.out.now in
     let held = to_z w64 (of_z w64 a.sum) in
     ap (λ (ys : List ℕ). take a.at old ++ (ys ++ drop (length old - a.at) (drop a.at old))) c.put_trailer.ensures
     ∙ paste_lent a.at (trailer_bytes a.width a.count held a.version) old (omega arith)

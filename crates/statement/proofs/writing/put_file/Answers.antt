@@ -32,12 +32,12 @@ put_trailer_at-requires c =
     let wide_of : c.width_of_lem.result * length c.args.places.now ≡ record_width c.args.reasons * length c.args.places.now = ap (λ (w : ℕ). w * length c.args.places.now) c.width_of_lem.ensures in
     let start = c in
     let a = start.args in record {
-      trailer_width_in_bounds = omega (arith, c.put_records-at.ensures.0, c.put_records-at.auto, start.requires.fits);
+      trailer_width_in_bounds = omega (arith, c.put_records-at.ensures.end, c.put_records-at.auto, start.requires.fits);
       count_bound = omega (arith, wide_of, mul-le-mul (narrow a.reasons) start.requires.small.few);
     }
 
 pub overflow_add-result : goal.overflow_add-result
-overflow_add-result c = omega (arith, c.put_records-at.ensures.0, c.requires.fits)
+overflow_add-result c = omega (arith, c.put_records-at.ensures.end, c.requires.fits)
 
 pub returns : goal.returns
 unfolding file_of
@@ -52,9 +52,9 @@ returns c = let start = c in
     let version = version_of a.reasons in
     let at = put.result in
     let sum = read_back s.result s.type_inv ∙ s.ensures ∙ ap (total_of f) (sym start.requires.even) in record {
-      end = omega (arith, put.ensures.0);
-      buffer = run_behind pieces width (λ i. length_record a.reasons _) a.start a.out-1.now n put.new.1.1.1.1.1.0 put.ensures.1 (trailer_bytes width n (total_of f n) version) _ at put.ensures.0 (omega (arith, start.requires.fits))
+      end = omega (arith, put.ensures.end);
+      buffer = run_behind pieces width (λ i. length_record a.reasons _) a.start a.out.now n put.new.out put.ensures.buffer (trailer_bytes width n (total_of f n) version) _ at put.ensures.end (omega (arith, start.requires.fits))
           (c.put_trailer_at.ensures
-          ∙ ap₂ (λ (w v : ℕ). pasted at (trailer_bytes w n (to_z w64 (of_z w64 s.result)) v) put.new.1.1.1.1.1.0) c.width_of_lem.ensures c.version_of.ensures
-          ∙ ap (λ (z : ℤ). pasted at (trailer_bytes width n z version) put.new.1.1.1.1.1.0) sum);
+          ∙ ap₂ (λ (w v : ℕ). pasted at (trailer_bytes w n (to_z w64 (of_z w64 s.result)) v) put.new.out) c.width_of_lem.ensures c.version_of.ensures
+          ∙ ap (λ (z : ℤ). pasted at (trailer_bytes width n z version) put.new.out) sum);
     }

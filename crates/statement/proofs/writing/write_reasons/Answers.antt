@@ -12,19 +12,19 @@ use Rattle.statement.proofs.writing.write_reasons.Goals as goal
 
 pub put_file-requires : goal.put_file-requires
 put_file-requires c = let a = c.args in
-    writable_reasons a.currency a.places.now a.reasons.now a.coefficients.now (length a.out-1.now) a.start (sym c.check_reasons.ensures ∙ c.in-Passed.is)
+    writable_reasons a.currency a.places.now a.reasons.now a.coefficients.now (length a.out.now) a.start (sym c.check_reasons.ensures ∙ c.in-Passed.is)
 
 pub returns-in-Refused : goal.returns-in-Refused
 unfolding reasons_said
 returns-in-Refused c = let a = c.args in
-    let all = answers_refused (reasons_rows a.currency a.places.now a.reasons.now a.coefficients.now (length a.out-1.now) a.start) (a.start + file_size true (length a.places.now)) a.start
-    (file_of true (payout_with a.currency a.places.now a.reasons.now a.coefficients.now) (length a.places.now)) a.out-1.now c.in-Refused.refusal
+    let all = answers_refused (reasons_rows a.currency a.places.now a.reasons.now a.coefficients.now (length a.out.now) a.start) (a.start + file_size true (length a.places.now)) a.start
+    (file_of true (payout_with a.currency a.places.now a.reasons.now a.coefficients.now) (length a.places.now)) a.out.now c.in-Refused.refusal
     (sym c.check_reasons.ensures ∙ c.in-Refused.is) in record { said = all.0; end = all.1.0; buffer = all.1.1 }
 
 pub returns-in-Passed : goal.returns-in-Passed
 unfolding reasons_said
 returns-in-Passed c = let a = c.args in
     let put = c.put_file in
-    let all = answers_written (reasons_rows a.currency a.places.now a.reasons.now a.coefficients.now (length a.out-1.now) a.start) (a.start + file_size true (length a.places.now)) a.start
-    (file_of true (payout_with a.currency a.places.now a.reasons.now a.coefficients.now) (length a.places.now)) a.out-1.now put.result put.new.1.1.1.1.1.0
-    (sym c.check_reasons.ensures ∙ c.in-Passed.is) put.ensures.0 put.ensures.1 in record { said = all.0; end = all.1.0; buffer = all.1.1 }
+    let all = answers_written (reasons_rows a.currency a.places.now a.reasons.now a.coefficients.now (length a.out.now) a.start) (a.start + file_size true (length a.places.now)) a.start
+    (file_of true (payout_with a.currency a.places.now a.reasons.now a.coefficients.now) (length a.places.now)) a.out.now put.result put.new.out
+    (sym c.check_reasons.ensures ∙ c.in-Passed.is) put.ensures.end put.ensures.buffer in record { said = all.0; end = all.1.0; buffer = all.1.1 }

@@ -15,14 +15,28 @@ use Rattle.tax.proofs.price.tax_from_net.Goals as goal
 
 pub split_of-requires : goal.split_of-requires
 split_of-requires c =
-    let asked : (c.is_negative-negative.result ≡ negative c.args.net.coefficient) × (c.magnitude-m.result ≡ magnitude_of c.args.net.coefficient) = let z = c.args.net.coefficient in let fits : SFits w64 z = search rules in (c.is_negative-negative.ensures ∙ ap negative (to_z-of_z w64 z fits), c.magnitude-m.ensures ∙ ap magnitude_of (to_z-of_z w64 z fits)) in
-    let call : Call c.args.net c.args.rate c.args.mode c.is_negative-negative.result c.magnitude-m.result c.in-Chosen.rule = let s = c in record { signs = asked.0; magnitudes = asked.1; choice = c.rule_for.result; said = c.rule_for.ensures; chosen = c.in-Chosen.is } in
+    let asked : (c.is_negative-negative.result ≡ negative c.args.net.coefficient) × (c.magnitude-m.result ≡ magnitude_of c.args.net.coefficient) =
+    let z = c.args.net.coefficient in
+    let fits : SFits w64 z = search rules in
+    (c.is_negative-negative.ensures ∙ ap negative (to_z-of_z w64 z fits), c.magnitude-m.ensures ∙ ap magnitude_of (to_z-of_z w64 z fits)) in
+    let call : Call c.args.net c.args.rate c.args.mode c.is_negative-negative.result c.magnitude-m.result c.in-Chosen.rule =
+    let s = c in
+    record {
+      signs = asked.0;
+      magnitudes = asked.1;
+      choice = c.rule_for.result;
+      said = c.rule_for.ensures;
+      chosen = c.in-Chosen.is;
+    } in
     let taxed : c.round_product-tax.result ≡ rounded_magnitude c.in-Chosen.rule c.is_negative-negative.result (c.magnitude-m.result * c.args.rate) million = let k = call in c.round_product-tax.ensures ∙ leaf k million (omega arith) (omega arith) (limits k).1 in
     net_limits call c.round_product-tax.result taxed
 
 pub returns-in-Refused : goal.returns-in-Refused
 returns-in-Refused c =
-    let asked : (c.is_negative-negative.result ≡ negative c.args.net.coefficient) × (c.magnitude-m.result ≡ magnitude_of c.args.net.coefficient) = let z = c.args.net.coefficient in let fits : SFits w64 z = search rules in (c.is_negative-negative.ensures ∙ ap negative (to_z-of_z w64 z fits), c.magnitude-m.ensures ∙ ap magnitude_of (to_z-of_z w64 z fits)) in
+    let asked : (c.is_negative-negative.result ≡ negative c.args.net.coefficient) × (c.magnitude-m.result ≡ magnitude_of c.args.net.coefficient) =
+    let z = c.args.net.coefficient in
+    let fits : SFits w64 z = search rules in
+    (c.is_negative-negative.ensures ∙ ap negative (to_z-of_z w64 z fits), c.magnitude-m.ensures ∙ ap magnitude_of (to_z-of_z w64 z fits)) in
     let s = c in
     let a = s.args in
     sym
@@ -31,7 +45,18 @@ returns-in-Refused c =
 
 pub returns-in-Chosen : goal.returns-in-Chosen
 returns-in-Chosen c =
-    let asked : (c.is_negative-negative.result ≡ negative c.args.net.coefficient) × (c.magnitude-m.result ≡ magnitude_of c.args.net.coefficient) = let z = c.args.net.coefficient in let fits : SFits w64 z = search rules in (c.is_negative-negative.ensures ∙ ap negative (to_z-of_z w64 z fits), c.magnitude-m.ensures ∙ ap magnitude_of (to_z-of_z w64 z fits)) in
-    let call : Call c.args.net c.args.rate c.args.mode c.is_negative-negative.result c.magnitude-m.result c.in-Chosen.rule = let s = c in record { signs = asked.0; magnitudes = asked.1; choice = c.rule_for.result; said = c.rule_for.ensures; chosen = c.in-Chosen.is } in
+    let asked : (c.is_negative-negative.result ≡ negative c.args.net.coefficient) × (c.magnitude-m.result ≡ magnitude_of c.args.net.coefficient) =
+    let z = c.args.net.coefficient in
+    let fits : SFits w64 z = search rules in
+    (c.is_negative-negative.ensures ∙ ap negative (to_z-of_z w64 z fits), c.magnitude-m.ensures ∙ ap magnitude_of (to_z-of_z w64 z fits)) in
+    let call : Call c.args.net c.args.rate c.args.mode c.is_negative-negative.result c.magnitude-m.result c.in-Chosen.rule =
+    let s = c in
+    record {
+      signs = asked.0;
+      magnitudes = asked.1;
+      choice = c.rule_for.result;
+      said = c.rule_for.ensures;
+      chosen = c.in-Chosen.is;
+    } in
     let taxed : c.round_product-tax.result ≡ rounded_magnitude c.in-Chosen.rule c.is_negative-negative.result (c.magnitude-m.result * c.args.rate) million = let k = call in c.round_product-tax.ensures ∙ leaf k million (omega arith) (omega arith) (limits k).1 in
     c.split_of.ensures ∙ net_said call c.round_product-tax.result taxed

@@ -16,7 +16,9 @@ loop-i-init c = (omega arith, refl)
 pub returns-then-has_code : goal.returns-then-has_code
 unfolding line_of
 returns-then-has_code c =
-    let asked : let a = c.args in c.has_code.result ≡ has_code a.a a.b a.c (get_or currencies c.loop-i.i none) = let a = c.args in c.has_code.ensures ∙ ap (λ (l : Line). has_code a.a a.b a.c l) c.line_of.ensures in
+    let asked : let a = c.args in c.has_code.result ≡ has_code a.a a.b a.c (get_or currencies c.loop-i.i none) =
+    let a = c.args in
+    c.has_code.ensures ∙ ap (λ (l : Line). has_code a.a a.b a.c l) c.line_of.ensures in
     let l = c in
     let a = l.args in
     sym (l.loop-i.invariant.1 ∙ scan_ends a.a a.b a.c currencies l.loop-i.i (omega arith) (sym asked ∙ c.if-has_code.true))
@@ -27,7 +29,9 @@ loop-i-smaller c = omega arith
 pub loop-i-preserved : goal.loop-i-preserved
 unfolding line_of
 loop-i-preserved c =
-    let asked : let a = c.args in c.has_code.result ≡ has_code a.a a.b a.c (get_or currencies c.loop-i.i none) = let a = c.args in c.has_code.ensures ∙ ap (λ (l : Line). has_code a.a a.b a.c l) c.line_of.ensures in
+    let asked : let a = c.args in c.has_code.result ≡ has_code a.a a.b a.c (get_or currencies c.loop-i.i none) =
+    let a = c.args in
+    c.has_code.ensures ∙ ap (λ (l : Line). has_code a.a a.b a.c l) c.line_of.ensures in
     let l = c in
     let a = l.args in
     (omega arith, l.loop-i.invariant.1 ∙ scan_on a.a a.b a.c currencies l.loop-i.i (omega arith) (sym asked ∙ c.if-has_code.false))

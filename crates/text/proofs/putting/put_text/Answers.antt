@@ -8,21 +8,21 @@ use Rattle.text.proofs.putting.put_text.Goals as goal
 
 pub returns-then-scale-gt-SCALE : goal.returns-then-scale-gt-SCALE
 returns-then-scale-gt-SCALE c = let a = c.args in
-    let all = no_scale a.out-1.now a.at a.negative a.m a.scale c.if-scale-gt-SCALE.true in record { out_after = all.0; value = all.1 }
+    let all = no_scale a.out.now a.at a.negative a.m a.scale c.if-scale-gt-SCALE.true in record { out_after = all.0; value = all.1 }
 
 pub returns-then-out-at : goal.returns-then-out-at
 returns-then-out-at c = let a = c.args in
-    let all = no_place a.out-1.now a.at a.negative a.m a.scale (omega arith) (omega arith) in record { out_after = all.0; value = all.1 }
+    let all = no_place a.out.now a.at a.negative a.m a.scale (omega arith) (omega arith) in record { out_after = all.0; value = all.1 }
 
 pub returns-then-out-at-2 : goal.returns-then-out-at-2
 returns-then-out-at-2 c = let a = c.args in
-    let all = no_place a.out-1.now a.at a.negative a.m a.scale (omega arith) (omega (arith, c.length_of-length.ensures)) in record { out_after = all.0; value = all.1 }
+    let all = no_place a.out.now a.at a.negative a.m a.scale (omega arith) (omega (arith, c.length_of-length.ensures)) in record { out_after = all.0; value = all.1 }
 
 pub returns : goal.returns
 returns c = let l = c in
     let a = l.args in record {
-      out_after = (placed a.out-1.now a.at a.negative a.m a.scale (omega arith) (omega (arith, l.length_of-length.ensures)) _ c.put.ensures _
+      out_after = (placed a.out.now a.at a.negative a.m a.scale (omega arith) (omega (arith, l.length_of-length.ensures)) _ c.put.ensures _
           (ap (λ (k : ℕ). a.at + k) l.length_of-length.ensures)).0;
-      value = (placed a.out-1.now a.at a.negative a.m a.scale (omega arith) (omega (arith, l.length_of-length.ensures)) _ c.put.ensures _
+      value = (placed a.out.now a.at a.negative a.m a.scale (omega arith) (omega (arith, l.length_of-length.ensures)) _ c.put.ensures _
           (ap (λ (k : ℕ). a.at + k) l.length_of-length.ensures)).1;
     }

@@ -36,7 +36,9 @@ scan-fraction-requires c = let s = c in
 
 pub returns-then-fraction-bytes : goal.returns-then-fraction-bytes
 returns-then-fraction-bytes c =
-    let tests : let a = c.args in bad_fraction a.bytes.now a.end ≡ ltb (digits_end a.bytes.now (a.end + 1)) (length a.bytes.now) = let a = c.args in fraction_tests a.bytes.now a.end c.if-bytes-end.false ∙ point-good _ _ (sym c.bad_point.ensures ∙ c.if-bad_point.false) in
+    let tests : let a = c.args in bad_fraction a.bytes.now a.end ≡ ltb (digits_end a.bytes.now (a.end + 1)) (length a.bytes.now) =
+    let a = c.args in
+    fraction_tests a.bytes.now a.end c.if-bytes-end.false ∙ point-good _ _ (sym c.bad_point.ensures ∙ c.if-bad_point.false) in
     let e = c in
     let a = e.args in
     let bytes = a.bytes.now in
@@ -49,7 +51,9 @@ scale_of-scale-requires c = let e = c in
 
 pub returns : goal.returns
 returns c =
-    let tests : let a = c.args in bad_fraction a.bytes.now a.end ≡ ltb (digits_end a.bytes.now (a.end + 1)) (length a.bytes.now) = let a = c.args in fraction_tests a.bytes.now a.end c.if-bytes-end.false ∙ point-good _ _ (sym c.bad_point.ensures ∙ c.if-bad_point.false) in
+    let tests : let a = c.args in bad_fraction a.bytes.now a.end ≡ ltb (digits_end a.bytes.now (a.end + 1)) (length a.bytes.now) =
+    let a = c.args in
+    fraction_tests a.bytes.now a.end c.if-bytes-end.false ∙ point-good _ _ (sym c.bad_point.ensures ∙ c.if-bad_point.false) in
     let o = c in
     let e = o in
     let a = e.args in

@@ -18,7 +18,11 @@ scan-whole-requires c = let s = c in (
 
 pub bad_whole-requires : goal.bad_whole-requires
 bad_whole-requires c =
-    let inside : c.scan-whole.result.end ≤ length c.args.bytes.now = let bytes = c.args.bytes.now in let start = c.start_of_lem in let first : start.result ≤ length bytes = omega (arith, start.ensures, start_inside bytes) in omega (arith, c.scan-whole.ensures.ends, within bytes start.result first) in
+    let inside : c.scan-whole.result.end ≤ length c.args.bytes.now =
+    let bytes = c.args.bytes.now in
+    let start = c.start_of_lem in
+    let first : start.result ≤ length bytes = omega (arith, start.ensures, start_inside bytes) in
+    omega (arith, c.scan-whole.ensures.ends, within bytes start.result first) in
     inside
 
 pub returns-then-bad_whole : goal.returns-then-bad_whole
@@ -30,7 +34,11 @@ returns-then-bad_whole c = let k = c in
 
 pub read_rest-requires : goal.read_rest-requires
 read_rest-requires c =
-    let inside : c.scan-whole.result.end ≤ length c.args.bytes.now = let bytes = c.args.bytes.now in let start = c.start_of_lem in let first : start.result ≤ length bytes = omega (arith, start.ensures, start_inside bytes) in omega (arith, c.scan-whole.ensures.ends, within bytes start.result first) in
+    let inside : c.scan-whole.result.end ≤ length c.args.bytes.now =
+    let bytes = c.args.bytes.now in
+    let start = c.start_of_lem in
+    let first : start.result ≤ length bytes = omega (arith, start.ensures, start_inside bytes) in
+    omega (arith, c.scan-whole.ensures.ends, within bytes start.result first) in
     let k = c in (inside, k.requires.1, k.scan-whole.ensures.small)
 
 pub returns : goal.returns

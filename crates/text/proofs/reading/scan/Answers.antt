@@ -38,12 +38,18 @@ returns-then-next-gt57 c = let l = c in
 
 pub overflow_mul-number : goal.overflow_mul-number
 overflow_mul-number c =
-    let room : c.loop-i.number * 10 + 9 < 10 ^ 18 = let l = c in let power : 10 ^ l.loop-i.i ≤ 10 ^ 17 = pow-le-pow_right (omega arith) {i = l.loop-i.i} {j = 17} (omega (arith, l.loop-i.invariant.0, l.requires.1)) in omega (arith, l.loop-i.invariant.1, power) in
+    let room : c.loop-i.number * 10 + 9 < 10 ^ 18 =
+    let l = c in
+    let power : 10 ^ l.loop-i.i ≤ 10 ^ 17 = pow-le-pow_right (omega arith) {i = l.loop-i.i} {j = 17} (omega (arith, l.loop-i.invariant.0, l.requires.1)) in
+    omega (arith, l.loop-i.invariant.1, power) in
     record { fits = omega (arith, room) }
 
 pub overflow_add-number : goal.overflow_add-number
 overflow_add-number c =
-    let room : c.loop-i.number * 10 + 9 < 10 ^ 18 = let l = c in let power : 10 ^ l.loop-i.i ≤ 10 ^ 17 = pow-le-pow_right (omega arith) {i = l.loop-i.i} {j = 17} (omega (arith, l.loop-i.invariant.0, l.requires.1)) in omega (arith, l.loop-i.invariant.1, power) in
+    let room : c.loop-i.number * 10 + 9 < 10 ^ 18 =
+    let l = c in
+    let power : 10 ^ l.loop-i.i ≤ 10 ^ 17 = pow-le-pow_right (omega arith) {i = l.loop-i.i} {j = 17} (omega (arith, l.loop-i.invariant.0, l.requires.1)) in
+    omega (arith, l.loop-i.invariant.1, power) in
     let digit-most : let l = c in get_or l.args.bytes.now l.loop-i.i 0 - 48 ≤ 9 = omega (arith, c.if-next-gt57.false) in
     record { fits = omega (arith, room, digit-most) }
 

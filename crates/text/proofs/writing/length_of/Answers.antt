@@ -32,7 +32,11 @@ pub returns-then-scale-eq0 : goal.returns-then-scale-eq0
 returns-then-scale-eq0 c =
     let is-power : c.power_of_ten.result ≡ 10 ^ c.args.scale = c.power_of_ten.ensures ∙ power_of_ten_lem c.args.scale (omega arith) in
     let counted : c.places-count.result ≡ length (decimal 20 (c.args.m / 10 ^ c.args.scale)) = c.places-count.ensures ∙ ap (λ (x : ℕ). length (decimal 20 (c.args.m / x))) is-power in
-    let pieces : let a = c.args in c.if-negative.count ≡ length (minus a.negative) + length (decimal 20 (a.m / 10 ^ a.scale)) = ⊎_elim (λ w. omega (arith, w.1, counted, ap (λ (s : Bool). length (minus s)) w.0.taken)) (λ w. omega (arith, w.1, counted, ap (λ (s : Bool). length (minus s)) w.0.left)) c.if-negative.branch in
+    let pieces : let a = c.args in c.if-negative.count ≡ length (minus a.negative) + length (decimal 20 (a.m / 10 ^ a.scale)) =
+    ⊎_elim
+    (λ w. omega (arith, w.1, counted, ap (λ (s : Bool). length (minus s)) w.0.taken))
+    (λ w. omega (arith, w.1, counted, ap (λ (s : Bool). length (minus s)) w.0.left))
+    c.if-negative.branch in
     let j = c in
     let a = j.args in
     omega (arith, pieces, spelled_length a.negative a.m a.scale, ap length (no_point a.scale a.m c.if-scale-eq0.true))
@@ -42,7 +46,11 @@ overflow_add-result c =
     let is-power : c.power_of_ten.result ≡ 10 ^ c.args.scale = c.power_of_ten.ensures ∙ power_of_ten_lem c.args.scale (omega arith) in
     let counted : c.places-count.result ≡ length (decimal 20 (c.args.m / 10 ^ c.args.scale)) = c.places-count.ensures ∙ ap (λ (x : ℕ). length (decimal 20 (c.args.m / x))) is-power in
     let few : c.places-count.result ≤ 20 = omega (arith, counted, decimal_short 20 (c.args.m / 10 ^ c.args.scale)) in
-    let pieces : let a = c.args in c.if-negative.count ≡ length (minus a.negative) + length (decimal 20 (a.m / 10 ^ a.scale)) = ⊎_elim (λ w. omega (arith, w.1, counted, ap (λ (s : Bool). length (minus s)) w.0.taken)) (λ w. omega (arith, w.1, counted, ap (λ (s : Bool). length (minus s)) w.0.left)) c.if-negative.branch in
+    let pieces : let a = c.args in c.if-negative.count ≡ length (minus a.negative) + length (decimal 20 (a.m / 10 ^ a.scale)) =
+    ⊎_elim
+    (λ w. omega (arith, w.1, counted, ap (λ (s : Bool). length (minus s)) w.0.taken))
+    (λ w. omega (arith, w.1, counted, ap (λ (s : Bool). length (minus s)) w.0.left))
+    c.if-negative.branch in
     let most : c.if-negative.count ≤ 21 = let a = c.args in omega (arith, pieces, counted, few, minus_length a.negative) in
     omega (arith, most)
 
@@ -51,7 +59,11 @@ overflow_add-result-2 c =
     let is-power : c.power_of_ten.result ≡ 10 ^ c.args.scale = c.power_of_ten.ensures ∙ power_of_ten_lem c.args.scale (omega arith) in
     let counted : c.places-count.result ≡ length (decimal 20 (c.args.m / 10 ^ c.args.scale)) = c.places-count.ensures ∙ ap (λ (x : ℕ). length (decimal 20 (c.args.m / x))) is-power in
     let few : c.places-count.result ≤ 20 = omega (arith, counted, decimal_short 20 (c.args.m / 10 ^ c.args.scale)) in
-    let pieces : let a = c.args in c.if-negative.count ≡ length (minus a.negative) + length (decimal 20 (a.m / 10 ^ a.scale)) = ⊎_elim (λ w. omega (arith, w.1, counted, ap (λ (s : Bool). length (minus s)) w.0.taken)) (λ w. omega (arith, w.1, counted, ap (λ (s : Bool). length (minus s)) w.0.left)) c.if-negative.branch in
+    let pieces : let a = c.args in c.if-negative.count ≡ length (minus a.negative) + length (decimal 20 (a.m / 10 ^ a.scale)) =
+    ⊎_elim
+    (λ w. omega (arith, w.1, counted, ap (λ (s : Bool). length (minus s)) w.0.taken))
+    (λ w. omega (arith, w.1, counted, ap (λ (s : Bool). length (minus s)) w.0.left))
+    c.if-negative.branch in
     let most : c.if-negative.count ≤ 21 = let a = c.args in omega (arith, pieces, counted, few, minus_length a.negative) in
     omega (arith, most, c.requires)
 
@@ -59,7 +71,11 @@ pub returns : goal.returns
 returns c =
     let is-power : c.power_of_ten.result ≡ 10 ^ c.args.scale = c.power_of_ten.ensures ∙ power_of_ten_lem c.args.scale (omega arith) in
     let counted : c.places-count.result ≡ length (decimal 20 (c.args.m / 10 ^ c.args.scale)) = c.places-count.ensures ∙ ap (λ (x : ℕ). length (decimal 20 (c.args.m / x))) is-power in
-    let pieces : let a = c.args in c.if-negative.count ≡ length (minus a.negative) + length (decimal 20 (a.m / 10 ^ a.scale)) = ⊎_elim (λ w. omega (arith, w.1, counted, ap (λ (s : Bool). length (minus s)) w.0.taken)) (λ w. omega (arith, w.1, counted, ap (λ (s : Bool). length (minus s)) w.0.left)) c.if-negative.branch in
+    let pieces : let a = c.args in c.if-negative.count ≡ length (minus a.negative) + length (decimal 20 (a.m / 10 ^ a.scale)) =
+    ⊎_elim
+    (λ w. omega (arith, w.1, counted, ap (λ (s : Bool). length (minus s)) w.0.taken))
+    (λ w. omega (arith, w.1, counted, ap (λ (s : Bool). length (minus s)) w.0.left))
+    c.if-negative.branch in
     let j = c in
     let a = j.args in
     omega (arith, pieces, spelled_length a.negative a.m a.scale, point_length a.scale a.m (omega (arith, c.if-scale-eq0.false)))

@@ -22,9 +22,9 @@ put_fraction-requires c =
     let s = p in
     let a = s.args in (
       s.requires.0,
-      third_fits a.out-1.now s.put_sign-at.new.0 n.put_number-end.new.0 a.negative a.m a.scale (a.m / p.power_of_ten.result) s.put_sign-at.result n.put_number-end.result
-          s.requires.1 s.put_sign-at.ensures.0 s.put_sign-at.ensures.1 (ap (λ (x : ℕ). a.m / x) is-power)
-          n.put_number-end.ensures.0 n.put_number-end.ensures.1,
+      third_fits a.out.now s.put_sign-at.new.out n.put_number-end.new.out a.negative a.m a.scale (a.m / p.power_of_ten.result) s.put_sign-at.result n.put_number-end.result
+          s.requires.1 s.put_sign-at.ensures.out_after s.put_sign-at.ensures.value (ap (λ (x : ℕ). a.m / x) is-power)
+          n.put_number-end.ensures.out_after n.put_number-end.ensures.value,
     )
 
 pub returns : goal.returns
@@ -35,6 +35,6 @@ returns c =
     let p = n in
     let s = p in
     let a = s.args in
-    all_put a.out-1.now s.put_sign-at.new.0 n.put_number-end.new.0 a.negative a.m a.scale (a.m / p.power_of_ten.result) s.put_sign-at.result n.put_number-end.result
-    s.requires.1 s.put_sign-at.ensures.0 s.put_sign-at.ensures.1 (ap (λ (x : ℕ). a.m / x) is-power)
-    n.put_number-end.ensures.0 n.put_number-end.ensures.1 f.put_fraction.new.0 f.put_fraction.ensures
+    all_put a.out.now s.put_sign-at.new.out n.put_number-end.new.out a.negative a.m a.scale (a.m / p.power_of_ten.result) s.put_sign-at.result n.put_number-end.result
+    s.requires.1 s.put_sign-at.ensures.out_after s.put_sign-at.ensures.value (ap (λ (x : ℕ). a.m / x) is-power)
+    n.put_number-end.ensures.out_after n.put_number-end.ensures.value f.put_fraction.new.out f.put_fraction.ensures

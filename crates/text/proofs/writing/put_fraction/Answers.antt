@@ -17,7 +17,7 @@ use Rattle.text.proofs.writing.put_fraction.Goals as goal
 
 pub returns-then-scale-eq0 : goal.returns-then-scale-eq0
 returns-then-scale-eq0 c = let a = c.args in
-    rw (no_point a.scale a.m c.if-scale-eq0.true) (sym (put_none a.out-1.now a.at (omega (arith, c.requires.1))))
+    rw (no_point a.scale a.m c.if-scale-eq0.true) (sym (put_none a.out.now a.at (omega (arith, c.requires.1))))
 
 pub nonzero_rem-m : goal.nonzero_rem-m
 nonzero_rem-m c =
@@ -41,7 +41,7 @@ bounds-out-at c =
     let n = c in
     let s = n in
     omega
-    (arith, ap length n.put_number.ensures.0, put_length s.args.out.now s.args.at (text_of false digits), s.requires.1, point_length s.args.scale s.args.m (omega (arith, n.if-scale-eq0.false)))
+    (arith, ap length n.put_number.ensures.out_after, put_length s.args.out.now s.args.at (text_of false digits), s.requires.1, point_length s.args.scale s.args.m (omega (arith, n.if-scale-eq0.false)))
 
 pub returns : goal.returns
 unfolding text_of
@@ -51,11 +51,11 @@ returns c =
     let p = n in
     let s = p in
     let a = s.args in
-    let out = a.out-1.now in
+    let out = a.out.now in
     let some : 0 < a.scale = omega (arith, p.if-scale-eq0.false) in
     let room : a.at + suc (length (last_digits a.scale a.m)) ≤ length out = omega (arith, s.requires.1, point_length a.scale a.m some, last_length a.scale a.m) in
     ap (λ (o : List ℕ). set o a.at 46)
-    (n.put_number.ensures.0 ∙ ap (λ (x : ℕ). put_at out a.at (decimal 20 (x + a.m % x))) is-power
+    (n.put_number.ensures.out_after ∙ ap (λ (x : ℕ). put_at out a.at (decimal 20 (x + a.m % x))) is-power
     ∙ ap (put_at out a.at) (power_digits 20 a.scale a.m (omega arith)))
     ∙ put_over out a.at 49 46 (last_digits a.scale a.m) room
     ∙ ap (put_at out a.at) (sym (pointed_digits a.scale a.m some))

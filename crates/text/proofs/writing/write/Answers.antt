@@ -17,29 +17,44 @@ use Rattle.text.proofs.writing.write.Goals as goal
 
 pub write_text-requires : goal.write_text-requires
 write_text-requires c =
-    let asked : (c.is_negative-negative.result ≡ negative c.args.amount.coefficient) × (c.magnitude-m.result ≡ magnitude_of c.args.amount.coefficient) = let z = c.args.amount.coefficient in let held : SFits w64 z = search rules in (c.is_negative-negative.ensures ∙ ap negative (to_z-of_z w64 z held), c.magnitude-m.ensures ∙ ap magnitude_of (to_z-of_z w64 z held)) in
-    let checked : let a = c.args.amount in c.check_one.result ≡ check_of (amount_rows a.scale (magnitude_of a.coefficient) a.currency) = let a = c.args.amount in c.check_one.ensures ∙ ap (λ (m : ℕ). check_of (amount_rows a.scale m a.currency)) asked.1 in
+    let asked : (c.is_negative-negative.result ≡ negative c.args.amount.coefficient) × (c.magnitude-m.result ≡ magnitude_of c.args.amount.coefficient) =
+    let z = c.args.amount.coefficient in
+    let held : SFits w64 z = search rules in
+    (c.is_negative-negative.ensures ∙ ap negative (to_z-of_z w64 z held), c.magnitude-m.ensures ∙ ap magnitude_of (to_z-of_z w64 z held)) in
+    let checked : let a = c.args.amount in c.check_one.result ≡ check_of (amount_rows a.scale (magnitude_of a.coefficient) a.currency) =
+    let a = c.args.amount in
+    c.check_one.ensures ∙ ap (λ (m : ℕ). check_of (amount_rows a.scale m a.currency)) asked.1 in
     let k = c in
     let a = k.args in
-    passed_scale a.amount a.out-1.now (sym checked ∙ c.in-Passed.is)
+    passed_scale a.amount a.out.now (sym checked ∙ c.in-Passed.is)
 
 pub returns-in-Refused : goal.returns-in-Refused
 returns-in-Refused c =
-    let asked : (c.is_negative-negative.result ≡ negative c.args.amount.coefficient) × (c.magnitude-m.result ≡ magnitude_of c.args.amount.coefficient) = let z = c.args.amount.coefficient in let held : SFits w64 z = search rules in (c.is_negative-negative.ensures ∙ ap negative (to_z-of_z w64 z held), c.magnitude-m.ensures ∙ ap magnitude_of (to_z-of_z w64 z held)) in
-    let checked : let a = c.args.amount in c.check_one.result ≡ check_of (amount_rows a.scale (magnitude_of a.coefficient) a.currency) = let a = c.args.amount in c.check_one.ensures ∙ ap (λ (m : ℕ). check_of (amount_rows a.scale m a.currency)) asked.1 in
+    let asked : (c.is_negative-negative.result ≡ negative c.args.amount.coefficient) × (c.magnitude-m.result ≡ magnitude_of c.args.amount.coefficient) =
+    let z = c.args.amount.coefficient in
+    let held : SFits w64 z = search rules in
+    (c.is_negative-negative.ensures ∙ ap negative (to_z-of_z w64 z held), c.magnitude-m.ensures ∙ ap magnitude_of (to_z-of_z w64 z held)) in
+    let checked : let a = c.args.amount in c.check_one.result ≡ check_of (amount_rows a.scale (magnitude_of a.coefficient) a.currency) =
+    let a = c.args.amount in
+    c.check_one.ensures ∙ ap (λ (m : ℕ). check_of (amount_rows a.scale m a.currency)) asked.1 in
     let k = c in
     let a = k.args in
-    refused_writes a.amount a.out-1.now c.in-Refused.refusal (sym checked ∙ c.in-Refused.is)
+    refused_writes a.amount a.out.now c.in-Refused.refusal (sym checked ∙ c.in-Refused.is)
 
 pub returns-in-Passed : goal.returns-in-Passed
 returns-in-Passed c =
-    let asked : (c.is_negative-negative.result ≡ negative c.args.amount.coefficient) × (c.magnitude-m.result ≡ magnitude_of c.args.amount.coefficient) = let z = c.args.amount.coefficient in let held : SFits w64 z = search rules in (c.is_negative-negative.ensures ∙ ap negative (to_z-of_z w64 z held), c.magnitude-m.ensures ∙ ap magnitude_of (to_z-of_z w64 z held)) in
-    let checked : let a = c.args.amount in c.check_one.result ≡ check_of (amount_rows a.scale (magnitude_of a.coefficient) a.currency) = let a = c.args.amount in c.check_one.ensures ∙ ap (λ (m : ℕ). check_of (amount_rows a.scale m a.currency)) asked.1 in
+    let asked : (c.is_negative-negative.result ≡ negative c.args.amount.coefficient) × (c.magnitude-m.result ≡ magnitude_of c.args.amount.coefficient) =
+    let z = c.args.amount.coefficient in
+    let held : SFits w64 z = search rules in
+    (c.is_negative-negative.ensures ∙ ap negative (to_z-of_z w64 z held), c.magnitude-m.ensures ∙ ap magnitude_of (to_z-of_z w64 z held)) in
+    let checked : let a = c.args.amount in c.check_one.result ≡ check_of (amount_rows a.scale (magnitude_of a.coefficient) a.currency) =
+    let a = c.args.amount in
+    c.check_one.ensures ∙ ap (λ (m : ℕ). check_of (amount_rows a.scale m a.currency)) asked.1 in
     let w = c.write_text in
     let k = c in
     let a = k.args in
-    let out = a.out-1.now in
-    let after = w.new.1.1.1.0 in
+    let out = a.out.now in
+    let after = w.new.out in
     let same : spelled k.is_negative-negative.result k.magnitude-m.result a.amount.scale ≡ text_of a.amount =
     ap₂ (λ (s : Bool) (m : ℕ). spelled s m a.amount.scale) asked.0 asked.1 in
     subst (λ (said : Said ℕ). Writes (text_of a.amount) said out w.result after)

@@ -10,10 +10,10 @@ use Rattle.text.proofs.writing.write_text.Goals as goal
 
 pub returns-then-out-length : goal.returns-then-out-length
 returns-then-out-length c = let a = c.args in
-    not_written (spelled a.negative a.m a.scale) a.out-1.now (omega (arith, c.length_of-length.ensures, c.if-out-length.true)) _ refl
+    not_written (spelled a.negative a.m a.scale) a.out.now (omega (arith, c.length_of-length.ensures, c.if-out-length.true)) _ refl
 
 pub returns : goal.returns
 returns c = let l = c in
     let a = l.args in
-    written (spelled a.negative a.m a.scale) a.out-1.now (omega (arith, l.length_of-length.ensures, c.if-out-length.false)) _ c.put.new.0
+    written (spelled a.negative a.m a.scale) a.out.now (omega (arith, l.length_of-length.ensures, c.if-out-length.false)) _ c.put.new.out
     (ap (λ (n : ℕ). record { outcome = Passed; length = n }) l.length_of-length.ensures) c.put.ensures

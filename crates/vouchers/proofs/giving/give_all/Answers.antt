@@ -23,9 +23,9 @@ module _ (count : ℕ) (ws : List ℕ) (left : ℕ) (held : List ℕ) (rest : le
 pub give_out-requires : goal.give_out-requires
 give_out-requires c = let a = c.args in
     let s = c.start-left in
-    let all = ready a.count a.weights.now s.result s.new.1.1.0 s.ensures.0 s.ensures.1 (omega arith) (omega arith) (omega arith) in record { in_bounds = all.0; held_len = all.1.0; vouchers_bound = all.1.1 }
+    let all = ready a.count a.weights.now s.result s.new.held s.ensures.left s.ensures.held (omega arith) (omega arith) (omega arith) in record { in_bounds = all.0; held_len = all.1.0; vouchers_bound = all.1.1 }
 
 pub returns : goal.returns
 returns c = let a = c.args in
     let s = c.start-left in
-    all a.count a.weights.now s.result s.new.1.1.0 s.ensures.0 s.ensures.1 _ (omega arith) (omega arith) c.give_out.ensures
+    all a.count a.weights.now s.result s.new.held s.ensures.left s.ensures.held _ (omega arith) (omega arith) c.give_out.ensures

@@ -11,12 +11,16 @@ use Rattle.vouchers.proofs.giving.give_one.Goals as goal
 
 pub offset_bounds-held-place : goal.offset_bounds-held-place
 offset_bounds-held-place c =
-    let inside : c.highest_place-place.result < length c.args.weights.now = let a = c.args in omega (arith, c.highest_place-place.ensures, (highest_is a.weights.now a.held.now (length a.weights.now) (omega arith)).0) in
+    let inside : c.highest_place-place.result < length c.args.weights.now =
+    let a = c.args in
+    omega (arith, c.highest_place-place.ensures, (highest_is a.weights.now a.held.now (length a.weights.now) (omega arith)).0) in
     omega (arith, inside)
 
 pub bounds-held-place : goal.bounds-held-place
 bounds-held-place c =
-    let inside : c.highest_place-place.result < length c.args.weights.now = let a = c.args in omega (arith, c.highest_place-place.ensures, (highest_is a.weights.now a.held.now (length a.weights.now) (omega arith)).0) in
+    let inside : c.highest_place-place.result < length c.args.weights.now =
+    let a = c.args in
+    omega (arith, c.highest_place-place.ensures, (highest_is a.weights.now a.held.now (length a.weights.now) (omega arith)).0) in
     omega (arith, inside)
 
 pub overflow_add-held : goal.overflow_add-held
@@ -24,7 +28,9 @@ overflow_add-held c = omega (arith, place_within c.args.held.now c.highest_place
 
 pub bounds-held-place-2 : goal.bounds-held-place-2
 bounds-held-place-2 c =
-    let inside : c.highest_place-place.result < length c.args.weights.now = let a = c.args in omega (arith, c.highest_place-place.ensures, (highest_is a.weights.now a.held.now (length a.weights.now) (omega arith)).0) in
+    let inside : c.highest_place-place.result < length c.args.weights.now =
+    let a = c.args in
+    omega (arith, c.highest_place-place.ensures, (highest_is a.weights.now a.held.now (length a.weights.now) (omega arith)).0) in
     omega (arith, inside)
 
 pub returns : goal.returns

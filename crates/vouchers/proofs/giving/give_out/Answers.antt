@@ -29,17 +29,17 @@ loop-given-init c = (search rules, refl)
 pub give_one-requires : goal.give_one-requires
 give_one-requires c = let a = c.args in
     let at = c.loop-given in
-    let all = ready a.weights.now a.held-1.now at.held-1 at.given at.invariant.1 (omega arith) (omega arith) (omega arith) in record { in_bounds = all.0; held_len = all.1.0; held_bound = all.1.1 }
+    let all = ready a.weights.now a.held.now at.held at.given at.invariant.1 (omega arith) (omega arith) (omega arith) in record { in_bounds = all.0; held_len = all.1.0; held_bound = all.1.1 }
 
 pub loop-given-preserved : goal.loop-given-preserved
 loop-given-preserved c = let a = c.args in
     let at = c.loop-given in
-    (omega arith, next a.weights.now a.held-1.now at.held-1 at.given at.invariant.1 _ c.give_one.ensures)
+    (omega arith, next a.weights.now a.held.now at.held at.given at.invariant.1 _ c.give_one.ensures)
 
 pub shape_of-held : goal.shape_of-held
 shape_of-held c = let a = c.args in
-    ap length c.loop-given.invariant.1 ∙ given_length c.loop-given.given a.weights.now a.held-1.now
+    ap length c.loop-given.invariant.1 ∙ given_length c.loop-given.given a.weights.now a.held.now
 
 pub returns : goal.returns
 returns c = let a = c.args in
-    c.loop-given.invariant.1 ∙ ap (λ (given : ℕ). give_out given a.weights.now a.held-1.now) (omega arith)
+    c.loop-given.invariant.1 ∙ ap (λ (given : ℕ). give_out given a.weights.now a.held.now) (omega arith)
