@@ -31,28 +31,23 @@ module _ (m : ℕ) (ws ss : List ℕ) (shares : ss ≡ shares_of m ws) where
   writable above limit room same = rw shares (omega (arith, sum_is m ws above), omega (arith, length_is m ws))
 
 pub hand_out-requires : goal.hand_out-requires
-hand_out-requires c = let start = c in
+hand_out-requires c =
     let d = c.divide-units in
-    let all = ready start.args.m start.args.weights.now d.result d.new.shares d.new.rests d.ensures.left d.ensures.shares d.ensures.rests
+    let all = ready c.args.m c.args.weights.now d.result d.new.shares d.new.rests d.ensures.left d.ensures.shares d.ensures.rests
     (omega arith) (omega arith) (omega arith) in record { in_bounds = all.0; rests_len = all.1.0; units_bound = all.1.1 }
 
 pub write-requires : goal.write-requires
 write-requires c =
-    let shares-now : c.hand_out.new.shares ≡ shares_of c.args.m c.args.weights.now =
     let a = c.args in
     let d = c.divide-units in
-    handed a.m a.weights.now d.result d.new.shares d.new.rests d.ensures.left d.ensures.shares d.ensures.rests
-    c.hand_out.new.shares c.hand_out.ensures in
-    let start = c in
-    let h = c in
-    let all = writable start.args.m start.args.weights.now h.hand_out.new.shares shares-now start.requires.allowed.above start.requires.m_bound
-    (length start.args.out.now) (omega (arith, start.requires.out_len)) in record { shares_bound = all.0; out_len = all.1 }
+    let shares_now = handed a.m a.weights.now d.result d.new.shares d.new.rests d.ensures.left d.ensures.shares d.ensures.rests _ c.hand_out.ensures in
+    let all = writable a.m a.weights.now c.hand_out.new.shares shares_now c.requires.allowed.above c.requires.m_bound
+    (length a.out.now) (omega (arith, c.requires.out_len)) in record { shares_bound = all.0; out_len = all.1 }
 
 pub returns : goal.returns
 returns c =
-    let shares-now : c.hand_out.new.shares ≡ shares_of c.args.m c.args.weights.now =
     let a = c.args in
     let d = c.divide-units in
-    handed a.m a.weights.now d.result d.new.shares d.new.rests d.ensures.left d.ensures.shares d.ensures.rests
-    c.hand_out.new.shares c.hand_out.ensures in
-    c.write.ensures ∙ ap (map (signed_of c.args.negative)) shares-now
+    c.write.ensures
+    ∙ ap (map (signed_of a.negative))
+    (handed a.m a.weights.now d.result d.new.shares d.new.rests d.ensures.left d.ensures.shares d.ensures.rests _ c.hand_out.ensures)

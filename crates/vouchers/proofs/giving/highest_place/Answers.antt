@@ -1,5 +1,5 @@
--- The place, its weight and one more than it holds are those of the highest average among the places passed; both products have two factors of
--- 32 bits. Assumes nothing.
+-- The place, its weight and one more than it holds are those of the highest average among the places passed.
+-- Assumes nothing.
 use mathlib.Core.Path.{refl, sym, ◌∙◌, ap}
 use Prim.Native.Nat.{ℕ, ◌+◌}
 use native.Mathlib.Omega.{arith}

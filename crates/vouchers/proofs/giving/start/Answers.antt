@@ -24,26 +24,26 @@ loop-i-init c = (search rules, fill_none 0 _ _, omega arith)
 
 pub nonzero_div-share : goal.nonzero_div-share
 nonzero_div-share c =
-    let total_is : c.weigh-total.result ≡ sum_of c.args.weights.now = c.weigh-total.ensures ∙ weighed_sum c.args.weights.now (omega arith) in
+    let total_is = c.weigh-total.ensures ∙ weighed_sum c.args.weights.now (omega arith) in
     omega (arith, total_is)
 
 pub overflow_cast-share-in-loop-i-2 : goal.overflow_cast-share-in-loop-i-2
 overflow_cast-share-in-loop-i-2 c =
-    let total_is : c.weigh-total.result ≡ sum_of c.args.weights.now = c.weigh-total.ensures ∙ weighed_sum c.args.weights.now (omega arith) in
+    let total_is = c.weigh-total.ensures ∙ weighed_sum c.args.weights.now (omega arith) in
     let a = c.args in
     let at = c.loop-i in
     omega (arith, share_is a.count a.weights.now c.weigh-total.result at.i total_is, enough a.count a.weights.now (omega arith) at.i at.left at.invariant.2 (omega arith))
 
 pub overflow_sub-left : goal.overflow_sub-left
 overflow_sub-left c =
-    let total_is : c.weigh-total.result ≡ sum_of c.args.weights.now = c.weigh-total.ensures ∙ weighed_sum c.args.weights.now (omega arith) in
+    let total_is = c.weigh-total.ensures ∙ weighed_sum c.args.weights.now (omega arith) in
     let a = c.args in
     let at = c.loop-i in
     omega (arith, share_is a.count a.weights.now c.weigh-total.result at.i total_is, enough a.count a.weights.now (omega arith) at.i at.left at.invariant.2 (omega arith))
 
 pub loop-i-preserved : goal.loop-i-preserved
 loop-i-preserved c =
-    let total_is : c.weigh-total.result ≡ sum_of c.args.weights.now = c.weigh-total.ensures ∙ weighed_sum c.args.weights.now (omega arith) in
+    let total_is = c.weigh-total.ensures ∙ weighed_sum c.args.weights.now (omega arith) in
     let a = c.args in
     let at = c.loop-i in
     let share = share_is a.count a.weights.now c.weigh-total.result at.i total_is in (
