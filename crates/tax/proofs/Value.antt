@@ -153,6 +153,12 @@ module _ {a : Amount} {rate mode : ℕ} {sign : Bool} {m : ℕ} {rule : Rule} (c
   pub leaf : (d : ℕ) → 0 < d → d ≤ 2 * million → rate ≤ d → rounded_product rule sign m rate d ≡ rounded_magnitude rule sign (m * rate) d
   leaf = leaf_of m (omega arith)
 
+  pub net_leaf : rounded_product rule sign m rate million ≡ rounded_magnitude rule sign (m * rate) million
+  net_leaf = leaf million (omega arith) (omega arith) limits.1
+
+  pub gross_leaf : rounded_product rule sign m rate (million + rate) ≡ rounded_magnitude rule sign (m * rate) (million + rate)
+  gross_leaf = leaf (million + rate) (omega arith) (omega (arith, limits.1)) (omega arith)
+
   -- from net, where t is the tax's magnitude
   module _ (t : ℕ) (tax : t ≡ rounded_magnitude rule sign (m * rate) million) where
     pub net_limits : (m ≤ largest) × (t ≤ largest)

@@ -1,13 +1,11 @@
 -- A refused check leaves the output as it stood; what passed puts the signed shares in front. Assumes nothing.
 use mathlib.Core.Path.{◌≡◌, sym, ◌∙◌, ap}
-use mathlib.Core.List.{◌++◌}
+use mathlib.Core.List.{List, ◌++◌}
 use Prim.Native.Nat.{ℕ}
 use native.Mathlib.Omega.{arith}
 use borrow.Author.Rules.{rules}
 use lib.ListN.{length}
-use mir.Syntax.{w64}
-use mir.Val.{SFits}
-use mir.ValLaws.{to_z-of_z}
+use Rattle.amount.specs.declared.Amount.{Amount}
 use Rattle.refusal.specs.Rows.{check_of}
 use Rattle.whole.specs.Whole.{negative, magnitude_of}
 use Rattle.amount.specs.Amounts.{amount_rows}
@@ -19,50 +17,35 @@ use Rattle.sharing.specs.Shared.{share_rows, shared_said}
 use Rattle.sharing.proofs.Answered.{share_fits}
 use Rattle.sharing.proofs.share.Goals as goal
 
+-- The rows that were asked, of the amount's magnitude, are the amount's.
+asked : (amount : Amount) (ws : List ℕ) (room m : ℕ) → m ≡ magnitude_of amount.coefficient → check_of (amount_rows amount.scale m amount.currency ++ list_rows ws room) ≡ check_of (share_rows amount ws room)
+asked amount ws room m e = ap (λ (m : ℕ). check_of (amount_rows amount.scale m amount.currency ++ list_rows ws room)) e
+
 pub spread-requires : goal.spread-requires
 spread-requires c =
-    let asked : c.magnitude-m.result ≡ magnitude_of c.args.amount.coefficient =
-    let z = c.args.amount.coefficient in
-    let fits : SFits w64 z = search rules in c.magnitude-m.ensures ∙ ap magnitude_of (to_z-of_z w64 z fits) in
-    let checked : c.check.result ≡ check_of (share_rows c.args.amount c.args.weights.now (length c.args.out.now)) =
     let a = c.args in
-    c.check.ensures
-    ∙ ap (λ (m : ℕ). check_of (amount_rows a.amount.scale m a.amount.currency ++ list_rows a.weights.now (length a.out.now))) asked in
-    let a = c.args in
-    let fits = share_fits a.amount a.weights.now (length a.out.now) (sym checked ∙ c.in-Passed.is) in record { m_bound = omega (arith, asked, fits.0); allowed = fits.1 }
+    let of_m : c.magnitude-m.result ≡ magnitude_of a.amount.coefficient = search rules in
+    let checked = c.check.ensures ∙ asked a.amount a.weights.now (length a.out.now) _ of_m in
+    let fits = share_fits a.amount a.weights.now (length a.out.now) (sym checked ∙ c.in-Passed.is) in record { m_bound = omega (arith, of_m, fits.0); allowed = fits.1 }
 
 pub returns-in-Refused : goal.returns-in-Refused
 unfolding shared_said
 returns-in-Refused c =
-    let asked : c.magnitude-m.result ≡ magnitude_of c.args.amount.coefficient =
-    let z = c.args.amount.coefficient in
-    let fits : SFits w64 z = search rules in c.magnitude-m.ensures ∙ ap magnitude_of (to_z-of_z w64 z fits) in
-    let checked : c.check.result ≡ check_of (share_rows c.args.amount c.args.weights.now (length c.args.out.now)) =
     let a = c.args in
-    c.check.ensures
-    ∙ ap (λ (m : ℕ). check_of (amount_rows a.amount.scale m a.amount.currency ++ list_rows a.weights.now (length a.out.now))) asked in
-    let a = c.args in
+    let of_m : c.magnitude-m.result ≡ magnitude_of a.amount.coefficient = search rules in
+    let checked = c.check.ensures ∙ asked a.amount a.weights.now (length a.out.now) _ of_m in
     let all = lent_refused (share_rows a.amount a.weights.now (length a.out.now)) (signed_shares a.amount.coefficient a.weights.now) a.out.now c.in-Refused.refusal
     (sym checked ∙ c.in-Refused.is) in record { said = all.0; places = all.1 }
 
 pub returns-in-Passed : goal.returns-in-Passed
 unfolding shared_said
 returns-in-Passed c =
-    let asked : c.magnitude-m.result ≡ magnitude_of c.args.amount.coefficient =
-    let z = c.args.amount.coefficient in
-    let fits : SFits w64 z = search rules in c.magnitude-m.ensures ∙ ap magnitude_of (to_z-of_z w64 z fits) in
-    let checked : c.check.result ≡ check_of (share_rows c.args.amount c.args.weights.now (length c.args.out.now)) =
     let a = c.args in
-    c.check.ensures
-    ∙ ap (λ (m : ℕ). check_of (amount_rows a.amount.scale m a.amount.currency ++ list_rows a.weights.now (length a.out.now))) asked in
-    let sign-asked : c.is_negative.result ≡ negative c.args.amount.coefficient =
-    let z = c.args.amount.coefficient in
-    let fits : SFits w64 z = search rules in c.is_negative.ensures ∙ ap negative (to_z-of_z w64 z fits) in
-    let a = c.args in
+    let of_m : c.magnitude-m.result ≡ magnitude_of a.amount.coefficient = search rules in
+    let of_sign : c.is_negative.result ≡ negative a.amount.coefficient = search rules in
+    let checked = c.check.ensures ∙ asked a.amount a.weights.now (length a.out.now) _ of_m in
     let all = lent_passed (share_rows a.amount a.weights.now (length a.out.now)) (signed_shares a.amount.coefficient a.weights.now) a.out.now
     c.spread.new.out
     (sym checked ∙ c.in-Passed.is)
     (c.spread.ensures
-    ∙ put_sign a.amount.coefficient a.weights.now a.out.now c.is_negative.result
-    c.magnitude-m.result sign-asked
-    asked) in record { said = all.0; places = all.1 }
+    ∙ put_sign a.amount.coefficient a.weights.now a.out.now c.is_negative.result c.magnitude-m.result of_sign of_m) in record { said = all.0; places = all.1 }

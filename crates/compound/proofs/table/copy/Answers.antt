@@ -13,12 +13,11 @@ pub loop-i-init : goal.loop-i-init
 loop-i-init c = (search rules, fill_none 0 _ _)
 
 pub loop-i-preserved : goal.loop-i-preserved
-loop-i-preserved c = let start = c in
-    let a = start.args in
+loop-i-preserved c = let a = c.args in
     let at = c.loop-i in
     let balance = get_or a.rows.now at.i 0 in
     let is = read_back c.signed.result c.signed.type_inv ∙ c.signed.ensures
-    ∙ held_within false balance (omega (arith, start.requires.within at.i (omega arith))) in (
+    ∙ held_within false balance (omega (arith, c.requires.within at.i (omega arith))) in (
       omega arith,
       fill_more 0 (λ n. pos (get_or a.rows.now n 0)) a.out.now at.out at.i at.i _ at.invariant.1 (omega arith) is,
     )

@@ -5,10 +5,9 @@ use Rattle.compound.proofs.table.write_by.Goals as goal
 
 pub copy-requires : goal.copy-requires
 copy-requires c = let f = c.fill in
-    let start = c in
-    let a = start.args in
+    let a = c.args in
     let all = ready a.principal a.rate a.rows.now f.new.rows f.result f.ensures c.in-Passed.is
-    (length a.out.now) start.requires.rows_in_bounds in record { within = all.0; rows_in_bounds = all.1 }
+    (length a.out.now) c.requires.rows_in_bounds in record { within = all.0; rows_in_bounds = all.1 }
 
 pub returns-in-Refused : goal.returns-in-Refused
 returns-in-Refused c = let f = c.fill in

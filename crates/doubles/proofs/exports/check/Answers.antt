@@ -13,8 +13,8 @@ returns-then-m-gt-L c = simp (le-ltb _ _ c.if-scale-gt-SCALE.false, lt-ltb _ _ c
 
 pub returns-then-currency-gt-LAST : goal.returns-then-currency-gt-LAST
 unfolding export_rows
-returns-then-currency-gt-LAST c = let b = c in simp (le-ltb _ _ b.if-scale-gt-SCALE.false, le-ltb _ _ b.if-m-gt-L.false, lt-ltb _ _ c.if-currency-gt-LAST.true)
+returns-then-currency-gt-LAST c = simp (le-ltb _ _ c.if-scale-gt-SCALE.false, le-ltb _ _ c.if-m-gt-L.false, lt-ltb _ _ c.if-currency-gt-LAST.true)
 
 pub returns : goal.returns
 unfolding export_rows
-returns c = let b = c in simp (le-ltb _ _ b.if-scale-gt-SCALE.false, le-ltb _ _ b.if-m-gt-L.false, le-ltb _ _ c.if-currency-gt-LAST.false)
+returns c = simp (le-ltb _ _ c.if-scale-gt-SCALE.false, le-ltb _ _ c.if-m-gt-L.false, le-ltb _ _ c.if-currency-gt-LAST.false)

@@ -26,47 +26,32 @@ limits : (a : Amount) → check_of (rows_at a) ≡ Passed → (magnitude_of a.co
 unfolding export_rows
 limits a e = let none = clear (rows_at a) e in (ltb-false largest (magnitude_of a.coefficient) none.1.0, ltb-false last_scale a.scale none.0)
 
+-- The rows that were asked, of the amount's magnitude, are the amount's.
+asked : (a : Amount) (m : ℕ) → m ≡ magnitude_of a.coefficient → check_of (export_rows a.scale m a.currency) ≡ check_of (rows_at a)
+asked a m e = ap (λ (m : ℕ). check_of (export_rows a.scale m a.currency)) e
+
 pub quotient-requires : goal.quotient-requires
 quotient-requires c =
-    let own : SFits w64 c.args.amount.coefficient = search rules in
-    let told : c.check.result ≡ check_of (rows_at c.args.amount) =
-    let s = c in
-    let a = s.args.amount in
-    c.check.ensures
-    ∙ ap (λ (m : ℕ). check_of (export_rows a.scale m a.currency))
-    (c.magnitude.ensures ∙ ap magnitude_of (to_z-of_z w64 a.coefficient own)) in
-    let k = c in
-    let s = k in
-    let a = s.args.amount in
-    rw (to_z-of_z w64 a.coefficient own) (limits a (sym told ∙ c.in-Passed.is))
+    let a = c.args.amount in
+    let own : SFits w64 a.coefficient = search rules in
+    let of_m : c.magnitude.result ≡ magnitude_of a.coefficient = search rules in
+    let checked = c.check.ensures ∙ asked a _ of_m in
+    rw (to_z-of_z w64 a.coefficient own) (limits a (sym checked ∙ c.in-Passed.is))
 
 pub returns-in-Refused : goal.returns-in-Refused
 unfolding export_said
 returns-in-Refused c =
-    let own : SFits w64 c.args.amount.coefficient = search rules in
-    let told : c.check.result ≡ check_of (rows_at c.args.amount) =
-    let s = c in
-    let a = s.args.amount in
-    c.check.ensures
-    ∙ ap (λ (m : ℕ). check_of (export_rows a.scale m a.currency))
-    (c.magnitude.ensures ∙ ap magnitude_of (to_z-of_z w64 a.coefficient own)) in
-    let k = c in
-    let a = k.args.amount in
-    sym (refused (gives (exported a.coefficient a.scale)) (rows_at a) c.in-Refused.refusal (sym told ∙ c.in-Refused.is))
+    let a = c.args.amount in
+    let of_m : c.magnitude.result ≡ magnitude_of a.coefficient = search rules in
+    let checked = c.check.ensures ∙ asked a _ of_m in
+    sym (refused (gives (exported a.coefficient a.scale)) (rows_at a) c.in-Refused.refusal (sym checked ∙ c.in-Refused.is))
 
 pub returns-in-Passed : goal.returns-in-Passed
 unfolding export_said
 returns-in-Passed c =
-    let own : SFits w64 c.args.amount.coefficient = search rules in
-    let told : c.check.result ≡ check_of (rows_at c.args.amount) =
-    let s = c in
-    let a = s.args.amount in
-    c.check.ensures
-    ∙ ap (λ (m : ℕ). check_of (export_rows a.scale m a.currency))
-    (c.magnitude.ensures ∙ ap magnitude_of (to_z-of_z w64 a.coefficient own)) in
-    let t = c in
-    let k = t in
-    let s = k in
-    let a = s.args.amount in
+    let a = c.args.amount in
+    let own : SFits w64 a.coefficient = search rules in
+    let of_m : c.magnitude.result ≡ magnitude_of a.coefficient = search rules in
+    let checked = c.check.ensures ∙ asked a _ of_m in
     ap gives (c.quotient.ensures ∙ ap (λ (z : ℤ). exported z a.scale) (to_z-of_z w64 a.coefficient own))
-    ∙ sym (passed (gives (exported a.coefficient a.scale)) (rows_at a) (sym told ∙ t.in-Passed.is))
+    ∙ sym (passed (gives (exported a.coefficient a.scale)) (rows_at a) (sym checked ∙ c.in-Passed.is))

@@ -14,15 +14,13 @@ use Rattle.doubles.proofs.exports.quotient.Goals as goal
 
 pub int_to_float-result-2 : goal.int_to_float-result-2
 int_to_float-result-2 c =
-    let power-is : c.power_of_ten.result ≡ 10 ^ c.args.scale = let s = c in c.power_of_ten.ensures ∙ power_of_ten_lem s.args.scale (omega (arith, s.requires.1)) in
-    let p = c in
-    let s = p in
-    divisor_in p.power_of_ten.result (rw power-is (ten_fits s.args.scale s.requires.1))
+    let power_is : c.power_of_ten.result ≡ 10 ^ c.args.scale = c.power_of_ten.ensures ∙ power_of_ten_lem c.args.scale (omega (arith, c.requires.1)) in
+    divisor_in c.power_of_ten.result (rw power_is (ten_fits c.args.scale c.requires.1))
 
 pub returns : goal.returns
 unfolding exported
 returns c =
-    let power-is : c.power_of_ten.result ≡ 10 ^ c.args.scale = let s = c in c.power_of_ten.ensures ∙ power_of_ten_lem s.args.scale (omega (arith, s.requires.1)) in
+    let power_is : c.power_of_ten.result ≡ 10 ^ c.args.scale = let s = c in c.power_of_ten.ensures ∙ power_of_ten_lem s.args.scale (omega (arith, s.requires.1)) in
     let p = c in
     let s = p in
-    ap₂ (λ (z : ℤ) (p : ℕ). div binary64 (of_int binary64 z) (of_int binary64 (pos p))) (to_z-of_z w64 s.args.coefficient s.ranges.coefficient) power-is
+    ap₂ (λ (z : ℤ) (p : ℕ). div binary64 (of_int binary64 z) (of_int binary64 (pos p))) (to_z-of_z w64 s.args.coefficient s.ranges.coefficient) power_is

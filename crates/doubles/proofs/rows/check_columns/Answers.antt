@@ -17,8 +17,8 @@ returns-then-netless c = simp (le-ltb _ _ c.if-net-gt-L.false, le-ltb _ _ c.if-t
 
 pub returns-then-taxless : goal.returns-then-taxless
 unfolding column_rows
-returns-then-taxless c = let b = c in simp (le-ltb _ _ b.if-net-gt-L.false, le-ltb _ _ b.if-tax-gt-L.false, c.if-netless.false, c.if-taxless.true)
+returns-then-taxless c = simp (le-ltb _ _ c.if-net-gt-L.false, le-ltb _ _ c.if-tax-gt-L.false, c.if-netless.false, c.if-taxless.true)
 
 pub returns : goal.returns
 unfolding column_rows
-returns c = let b = c in simp (le-ltb _ _ b.if-net-gt-L.false, le-ltb _ _ b.if-tax-gt-L.false, c.if-netless.false, c.if-taxless.false)
+returns c = simp (le-ltb _ _ c.if-net-gt-L.false, le-ltb _ _ c.if-tax-gt-L.false, c.if-netless.false, c.if-taxless.false)

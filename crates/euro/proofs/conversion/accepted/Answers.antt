@@ -1,6 +1,7 @@
 -- What passed the check is within the limits of the steps, and the amount's coefficient is its sign and its magnitude. Assumes nothing.
 use mathlib.Core.Path.{◌≡◌, sym, ◌∙◌, ap, ap₂}
 use Prim.Native.Nat.{ℕ, ◌≤◌}
+use borrow.Author.Rules.{rules}
 use borrow.Author.Tests.{eq-eqb, ne_eqb, ltb-false}
 use lib.IntN.{ℤ}
 use Rattle.refusal.specs.declared.Checked.TheVariants.{Passed}
@@ -33,30 +34,22 @@ pub returns-then-from-to : goal.returns-then-from-to
 unfolding converted
 returns-then-from-to c =
     let made : ℤ → Said Amount = λ z. gives (record { currency = c.args.from; scale = c.args.scale; coefficient = z }) in
-    let s = c in
-    let a = s.args in
-    ap made (read_back a.coefficient s.ranges.coefficient.sfits) ∙ sym (rw (eq-eqb a.from.0 a.to.0 c.if-from-to.true))
+    let a = c.args in
+    ap made (read_back a.coefficient c.ranges.coefficient.sfits) ∙ sym (rw (eq-eqb a.from.0 a.to.0 c.if-from-to.true))
 
 pub exchange-requires : goal.exchange-requires
 exchange-requires c =
-    let asked : let z = c.args.coefficient in (c.is_negative.result ≡ negative z) × (c.magnitude.result ≡ magnitude_of z) =
-    let s = c in
-    let read = read_back s.args.coefficient s.ranges.coefficient.sfits in
-    (c.is_negative.ensures ∙ ap negative read, c.magnitude.ensures ∙ ap magnitude_of read) in
-    let s = c in
-    let a = s.args in
-    let limits = within a.decimals a.scale (magnitude_of a.coefficient) a.from a.to s.requires in
-    (limits.0, limits.1, limits.2, rw asked.1 limits.3, c.if-from-to.false)
+    let a = c.args in
+    let of_m : c.magnitude.result ≡ magnitude_of a.coefficient = search rules in
+    let limits = within a.decimals a.scale (magnitude_of a.coefficient) a.from a.to c.requires in
+    (limits.0, limits.1, limits.2, rw of_m limits.3, c.if-from-to.false)
 
 pub returns : goal.returns
 unfolding converted
 returns c =
-    let asked : let z = c.args.coefficient in (c.is_negative.result ≡ negative z) × (c.magnitude.result ≡ magnitude_of z) =
-    let s = c in
-    let read = read_back s.args.coefficient s.ranges.coefficient.sfits in
-    (c.is_negative.ensures ∙ ap negative read, c.magnitude.ensures ∙ ap magnitude_of read) in
-    let e = c in
-    let a = e.args in
+    let a = c.args in
+    let of_sign : c.is_negative.result ≡ negative a.coefficient = search rules in
+    let of_m : c.magnitude.result ≡ magnitude_of a.coefficient = search rules in
     c.exchange.ensures
-    ∙ ap (exchanged a.decimals a.from a.to) (ap₂ signed_of asked.0 asked.1 ∙ sign_and_magnitude a.coefficient)
-    ∙ sym (rw (ne_eqb a.from.0 a.to.0 e.if-from-to.false))
+    ∙ ap (exchanged a.decimals a.from a.to) (ap₂ signed_of of_sign of_m ∙ sign_and_magnitude a.coefficient)
+    ∙ sym (rw (ne_eqb a.from.0 a.to.0 c.if-from-to.false))

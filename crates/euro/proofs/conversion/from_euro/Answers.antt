@@ -22,18 +22,16 @@ overflow_add-line c =
 pub overflow_mul-unit : goal.overflow_mul-unit
 overflow_mul-unit c =
     let good : Good c.line_of-line.result = rw c.line_of-line.ensures (in_table c.args.to c.requires.0) in
-    let bounded : c.line_of-line.result.figures * c.power_of_ten.result ≤ 10 ^ 18 = let s = c in rw c.power_of_ten.ensures (unit_fits s.line_of-line.result good) in
+    let bounded : c.line_of-line.result.figures * c.power_of_ten.result ≤ 10 ^ 18 = rw c.power_of_ten.ensures (unit_fits c.line_of-line.result good) in
     omega (arith, bounded)
 
 pub returns : goal.returns
 returns c =
     let good : Good c.line_of-line.result = rw c.line_of-line.ensures (in_table c.args.to c.requires.0) in
-    let p = c in
-    let s = p in
-    let a = s.args in
-    let l = s.line_of-line.result in
+    let a = c.args in
+    let l = c.line_of-line.result in
     c.round_half_up.ensures
-    ∙ ap₂ (λ (x y : ℕ). rounded_product HalfUp false a.m (l.figures * y) x) p.power_of_ten-parts.ensures p.power_of_ten.ensures
+    ∙ ap₂ (λ (x y : ℕ). rounded_product HalfUp false a.m (l.figures * y) x) c.power_of_ten-parts.ensures c.power_of_ten.ensures
     ∙ either_sign a.negative a.m (l.figures * power_of_ten l.digits) (power_of_ten (l.places + a.decimals))
-    ∙ from_euro_is l good a.decimals s.requires.1 a.negative a.m s.requires.2
-    ∙ ap (λ (x : Line). capped (magnitude_of (from_euro x a.decimals (signed_of a.negative a.m)))) s.line_of-line.ensures
+    ∙ from_euro_is l good a.decimals c.requires.1 a.negative a.m c.requires.2
+    ∙ ap (λ (x : Line). capped (magnitude_of (from_euro x a.decimals (signed_of a.negative a.m)))) c.line_of-line.ensures

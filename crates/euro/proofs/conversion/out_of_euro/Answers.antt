@@ -9,8 +9,7 @@ use Rattle.currency.specs.Names.{EUR}
 use Rattle.euro.proofs.conversion.out_of_euro.Goals as goal
 
 pub returns-then-to-eq-EURO : goal.returns-then-to-eq-EURO
-returns-then-to-eq-EURO c = let s = c in
-    let a = s.args in
+returns-then-to-eq-EURO c = let a = c.args in
     sym
     (rw (eq-eqb a.to.0 EUR.0 c.if-to-eq-EURO.true)
-    (ap capped (magnitude_signed a.negative a.m) ∙ capped_is a.m (omega (arith, s.requires.2))))
+    (ap capped (magnitude_signed a.negative a.m) ∙ capped_is a.m (omega (arith, c.requires.2))))

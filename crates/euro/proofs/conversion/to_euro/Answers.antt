@@ -22,18 +22,16 @@ overflow_add-line c =
 pub overflow_mul-unit : goal.overflow_mul-unit
 overflow_mul-unit c =
     let good : Good c.line_of-line.result = rw c.line_of-line.ensures (in_table c.args.from c.requires.0) in
-    let bounded : c.line_of-line.result.figures * c.power_of_ten.result ≤ 10 ^ 18 = let s = c in rw c.power_of_ten.ensures (unit_fits s.line_of-line.result good) in
+    let bounded : c.line_of-line.result.figures * c.power_of_ten.result ≤ 10 ^ 18 = rw c.power_of_ten.ensures (unit_fits c.line_of-line.result good) in
     omega (arith, bounded)
 
 pub returns : goal.returns
 returns c =
     let good : Good c.line_of-line.result = rw c.line_of-line.ensures (in_table c.args.from c.requires.0) in
-    let p = c in
-    let s = p in
-    let a = s.args in
-    let l = s.line_of-line.result in
+    let a = c.args in
+    let l = c.line_of-line.result in
     c.round_half_up.ensures
-    ∙ ap₂ (λ (x y : ℕ). rounded_product HalfUp false a.m x (l.figures * y)) p.power_of_ten-parts.ensures p.power_of_ten.ensures
+    ∙ ap₂ (λ (x y : ℕ). rounded_product HalfUp false a.m x (l.figures * y)) c.power_of_ten-parts.ensures c.power_of_ten.ensures
     ∙ either_sign a.negative a.m (power_of_ten (l.places + a.decimals)) (l.figures * power_of_ten l.digits)
-    ∙ to_euro_is l good a.decimals s.requires.1 a.negative a.m s.requires.2
-    ∙ ap (λ (x : Line). capped (magnitude_of (to_euro x a.decimals (signed_of a.negative a.m)))) s.line_of-line.ensures
+    ∙ to_euro_is l good a.decimals c.requires.1 a.negative a.m c.requires.2
+    ∙ ap (λ (x : Line). capped (magnitude_of (to_euro x a.decimals (signed_of a.negative a.m)))) c.line_of-line.ensures

@@ -11,12 +11,11 @@ use Rattle.interest.proofs.accrual.accrued.Goals as goal
 
 pub returns : goal.returns
 unfolding accrued_to
-returns c = let s = c in
-    let a = s.args in
+returns c = let a = c.args in
     read_back c.signed.result c.signed.type_inv
     ∙ c.signed.ensures
     ∙ ap (held_signed a.negative)
     (c.round_product-rounded.ensures
     ∙ ap (λ (x : ℕ). rounded_product a.rule a.negative a.m (a.rate * a.days) (10000 * x)) c.year_of.ensures
-    ∙ leaf s.requires a.rule a.negative a.basis)
-    ∙ held s.requires a.rule a.negative a.basis
+    ∙ leaf c.requires a.rule a.negative a.basis)
+    ∙ held c.requires a.rule a.negative a.basis

@@ -19,12 +19,11 @@ returns-in-Refused c = let a = c.args in
 
 pub returns-in-Chosen : goal.returns-in-Chosen
 unfolding interest_said
-returns-in-Chosen c = let s = c in
-    let a = s.args in
+returns-in-Chosen c = let a = c.args in
     let p = a.principal in
     let rows = interest_rows p.scale (magnitude_of p.coefficient) p.currency a.rate a.basis a.start a.end in
-    let rule = s.in-Chosen.rule in
-    let chosen = sym s.rule_of.ensures ∙ s.in-Chosen.is in
+    let rule = c.in-Chosen.rule in
+    let chosen = sym c.rule_of.ensures ∙ c.in-Chosen.is in
     c.by_rule.ensures
     ∙ ap (λ (x : Rule). interest_by_rule x p a.rate a.basis a.start a.end) (sym (rule_chosen a.mode rule chosen))
     ∙ sym (mode_chosen (interest_made (rule_of a.mode) p a.rate a.basis a.start a.end) rows a.mode rule chosen)

@@ -18,21 +18,19 @@ returns-in-Refused c = let a = c.args in
 
 pub returns-in-Refused-check : goal.returns-in-Refused-check
 unfolding rule_said
-returns-in-Refused-check c = let s = c in
-    let a = s.args in
+returns-in-Refused-check c = let a = c.args in
     let rows = tax_rows a.scale a.m a.currency a.rate in
     let value = gives (rule_of a.mode) in
     sym
-    (mode_chosen value rows a.mode s.in-Chosen.rule (sym s.rule_of.ensures ∙ s.in-Chosen.is)
+    (mode_chosen value rows a.mode c.in-Chosen.rule (sym c.rule_of.ensures ∙ c.in-Chosen.is)
     ∙ refused value rows c.in-Refused-check.refusal (sym c.check.ensures ∙ c.in-Refused-check.is))
 
 pub returns-in-Passed : goal.returns-in-Passed
 unfolding rule_said
-returns-in-Passed c = let s = c in
-    let a = s.args in
+returns-in-Passed c = let a = c.args in
     let rows = tax_rows a.scale a.m a.currency a.rate in
     let value = gives (rule_of a.mode) in
-    let rule = s.in-Chosen.rule in
-    let chosen = sym s.rule_of.ensures ∙ s.in-Chosen.is in
+    let rule = c.in-Chosen.rule in
+    let chosen = sym c.rule_of.ensures ∙ c.in-Chosen.is in
     ap gives (sym (rule_chosen a.mode rule chosen))
     ∙ sym (mode_chosen value rows a.mode rule chosen ∙ passed value rows (sym c.check.ensures ∙ c.in-Passed.is))
