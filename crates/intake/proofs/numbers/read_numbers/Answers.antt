@@ -17,32 +17,27 @@ pub shape_of-values-then-end-word : goal.shape_of-values-then-end-word
 shape_of-values-then-end-word c = c.loop-at.invariant.values_sized
 
 pub returns-then-end-word : goal.returns-then-end-word
-returns-then-end-word c = let l = c in record {
-  given = (empty_word _ _ _ _ _ _ _ _ l.loop-at.invariant _ c.word_from-word.ensures c.if-end-word.true).0;
-  signs = (empty_word _ _ _ _ _ _ _ _ l.loop-at.invariant _ c.word_from-word.ensures c.if-end-word.true).1.0;
-  magnitudes = (empty_word _ _ _ _ _ _ _ _ l.loop-at.invariant _ c.word_from-word.ensures c.if-end-word.true).1.1;
+returns-then-end-word c = record {
+  given = (empty_word _ _ _ _ _ _ _ _ c.loop-at.invariant _ c.word_from-word.ensures c.if-end-word.true).0;
+  signs = (empty_word _ _ _ _ _ _ _ _ c.loop-at.invariant _ c.word_from-word.ensures c.if-end-word.true).1.0;
+  magnitudes = (empty_word _ _ _ _ _ _ _ _ c.loop-at.invariant _ c.word_from-word.ensures c.if-end-word.true).1.1;
 }
 
 pub returns-then-not-take_number : goal.returns-then-not-take_number
-returns-then-not-take_number c = let e = c in
-    let l = e in record {
-      given = (other_word _ _ _ _ _ _ _ _ l.loop-at.invariant _ e.word_from-word.ensures (omega arith) _ _ _
+returns-then-not-take_number c = record {
+      given = (other_word _ _ _ _ _ _ _ _ c.loop-at.invariant _ c.word_from-word.ensures (omega arith) _ _ _
           c.take_number.ensures (c.if-not-take_number.true)).0;
-      signs = (other_word _ _ _ _ _ _ _ _ l.loop-at.invariant _ e.word_from-word.ensures (omega arith) _ _ _
+      signs = (other_word _ _ _ _ _ _ _ _ c.loop-at.invariant _ c.word_from-word.ensures (omega arith) _ _ _
           c.take_number.ensures (c.if-not-take_number.true)).1.0;
-      magnitudes = (other_word _ _ _ _ _ _ _ _ l.loop-at.invariant _ e.word_from-word.ensures (omega arith) _ _ _
+      magnitudes = (other_word _ _ _ _ _ _ _ _ c.loop-at.invariant _ c.word_from-word.ensures (omega arith) _ _ _
           c.take_number.ensures (c.if-not-take_number.true)).1.1;
     }
 
 pub loop-at-smaller : goal.loop-at-smaller
-loop-at-smaller c = let e = c in
-    let l = e in
-    omega (arith, word_places _ _ _ _ _ _ _ _ l.loop-at.invariant _ e.word_from-word.ensures (omega arith) (omega arith))
+loop-at-smaller c = omega (arith, word_places _ _ _ _ _ _ _ _ c.loop-at.invariant _ c.word_from-word.ensures (omega arith) (omega arith))
 
 pub loop-at-preserved : goal.loop-at-preserved
-loop-at-preserved c = let e = c in
-    let l = e in
-    one_taken _ _ _ _ _ _ _ _ l.loop-at.invariant _ e.word_from-word.ensures (omega arith) _ _ _
+loop-at-preserved c = one_taken _ _ _ _ _ _ _ _ c.loop-at.invariant _ c.word_from-word.ensures (omega arith) _ _ _
     c.take_number.ensures (omega arith) (c.if-not-take_number.false)
 
 pub shape_of-signs : goal.shape_of-signs

@@ -9,9 +9,8 @@ returns-in-Nothing c = let told = sym c.read_number.ensures ∙ c.in-Nothing.is 
 
 pub returns-in-Whole : goal.returns-in-Whole
 unfolding is_number sign_in magnitude_in
-returns-in-Whole c = let s = c in
-    let told = sym s.read_number.ensures ∙ s.in-Whole.is in record {
+returns-in-Whole c = let told = sym c.read_number.ensures ∙ c.in-Whole.is in record {
       value = rw told;
-      signs_after = rw told s.put_sign.ensures;
+      signs_after = rw told c.put_sign.ensures;
       values_after = rw told c.put_magnitude.ensures;
     }

@@ -9,17 +9,17 @@ use borrow.Author.Rules.{rules}
 use Rattle.spoken.proofs.hearing.is_capital.Goals as goal
 
 -- whether there is a byte
-none-ltb : (n : ℕ) → n ≡ 0 → ltb 0 n ≡ false
-none-ltb n e = rw e
+none_ltb : (n : ℕ) → n ≡ 0 → ltb 0 n ≡ false
+none_ltb n e = rw e
 
-some-ltb : (n : ℕ) → ¬ (n ≡ 0) → ltb 0 n ≡ true
-some-ltb n h = lt-ltb 0 n (omega arith)
+some_ltb : (n : ℕ) → ¬ (n ≡ 0) → ltb 0 n ≡ true
+some_ltb n h = lt-ltb 0 n (omega arith)
 
 pub returns-then-word-eq0 : goal.returns-then-word-eq0
-returns-then-word-eq0 c = simp (none-ltb _ c.if-word-eq0.true)
+returns-then-word-eq0 c = simp (none_ltb _ c.if-word-eq0.true)
 
 pub returns-then-word-lt65 : goal.returns-then-word-lt65
-returns-then-word-lt65 c = simp (some-ltb _ c.if-word-eq0.false, lt-leb _ _ c.if-word-lt65.true)
+returns-then-word-lt65 c = simp (some_ltb _ c.if-word-eq0.false, lt-leb _ _ c.if-word-lt65.true)
 
 pub returns : goal.returns
-returns c = simp (some-ltb _ c.if-word-eq0.false, le-leb _ _ c.if-word-lt65.false)
+returns c = simp (some_ltb _ c.if-word-eq0.false, le-leb _ _ c.if-word-lt65.false)

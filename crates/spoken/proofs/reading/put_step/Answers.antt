@@ -13,11 +13,10 @@ returns-then-not-step c = let a = c.args in
     }
 
 pub returns : goal.returns
-returns c = let e = c in
-    let a = e.args in
-    let two = e.if-not-step.false in record {
-      signs_after = two_put a.step.two false a.step.negative a.place a.signs.now two _ e.put_sign-2.ensures _ e.add-behind.ensures _
+returns c = let a = c.args in
+    let two = c.if-not-step.false in record {
+      signs_after = two_put a.step.two false a.step.negative a.place a.signs.now two _ c.put_sign-2.ensures _ c.add-behind.ensures _
           c.put_sign-3.ensures;
-      values_after = two_put a.step.two a.step.front a.step.last a.place a.values.now two _ e.put_magnitude-2.ensures _ e.add-behind.ensures _
+      values_after = two_put a.step.two a.step.front a.step.last a.place a.values.now two _ c.put_magnitude-2.ensures _ c.add-behind.ensures _
           c.put_magnitude-3.ensures;
     }

@@ -17,24 +17,21 @@ pub shape_of-values-then-end-word : goal.shape_of-values-then-end-word
 shape_of-values-then-end-word c = c.loop-at.invariant.values_sized
 
 pub returns-then-end-word : goal.returns-then-end-word
-returns-then-end-word c = let w = c in record {
-  said = (empty_word _ _ _ _ _ _ _ _ _ w.loop-at.invariant _ c.spoken_of.ensures _ w.word_from-word.ensures c.if-end-word.true).0;
-  signs = (empty_word _ _ _ _ _ _ _ _ _ w.loop-at.invariant _ c.spoken_of.ensures _ w.word_from-word.ensures c.if-end-word.true).1.0;
-  magnitudes = (empty_word _ _ _ _ _ _ _ _ _ w.loop-at.invariant _ c.spoken_of.ensures _ w.word_from-word.ensures c.if-end-word.true).1.1;
+returns-then-end-word c = record {
+  said = (empty_word _ _ _ _ _ _ _ _ _ c.loop-at.invariant _ c.spoken_of.ensures _ c.word_from-word.ensures c.if-end-word.true).0;
+  signs = (empty_word _ _ _ _ _ _ _ _ _ c.loop-at.invariant _ c.spoken_of.ensures _ c.word_from-word.ensures c.if-end-word.true).1.0;
+  magnitudes = (empty_word _ _ _ _ _ _ _ _ _ c.loop-at.invariant _ c.spoken_of.ensures _ c.word_from-word.ensures c.if-end-word.true).1.1;
 }
 
 pub hear-step-requires : goal.hear-step-requires
-hear-step-requires c = let w = c in
-    (word_places _ _ _ _ _ _ _ _ _ w.loop-at.invariant _ w.word_from-word.ensures (omega arith) (omega arith)).0
+hear-step-requires c = (word_places _ _ _ _ _ _ _ _ _ c.loop-at.invariant _ c.word_from-word.ensures (omega arith) (omega arith)).0
 
 pub loop-at-smaller : goal.loop-at-smaller
-loop-at-smaller c = let w = c in
-    omega (arith, word_places _ _ _ _ _ _ _ _ _ w.loop-at.invariant _ w.word_from-word.ensures (omega arith) (omega arith))
+loop-at-smaller c = omega (arith, word_places _ _ _ _ _ _ _ _ _ c.loop-at.invariant _ c.word_from-word.ensures (omega arith) (omega arith))
 
 pub loop-at-preserved : goal.loop-at-preserved
-loop-at-preserved c = let w = c in
-    let put = c.put_step.ensures in
-    one_heard _ _ _ _ _ _ _ _ _ w.loop-at.invariant _ _ _ _ w.word_from-word.ensures (omega arith) (omega arith) c.hear-step.ensures put.0 put.1
+loop-at-preserved c = let put = c.put_step.ensures in
+    one_heard _ _ _ _ _ _ _ _ _ c.loop-at.invariant _ _ _ _ c.word_from-word.ensures (omega arith) (omega arith) c.hear-step.ensures put.0 put.1
 
 pub shape_of-signs : goal.shape_of-signs
 shape_of-signs c = c.loop-at.invariant.signs_sized

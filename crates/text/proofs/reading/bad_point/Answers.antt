@@ -1,5 +1,4 @@
 -- Each test is one of the definition's. Assumes nothing.
-use borrow.Author.Rules.{rules}
 use borrow.Author.Tests.{eq-eqb, ne_eqb}
 use Rattle.text.proofs.reading.bad_point.Goals as goal
 

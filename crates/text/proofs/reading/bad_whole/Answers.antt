@@ -1,6 +1,5 @@
 -- Each test is one of the definition's. Assumes nothing.
 use borrow.Author.Tests.{le-leb, lt-leb, eq-eqb, ne_eqb}
-use borrow.Author.Rules.{rules}
 use Rattle.text.proofs.reading.bad_whole.Goals as goal
 
 pub returns-then-end-start : goal.returns-then-end-start

@@ -6,15 +6,14 @@ use native.Mathlib.Omega.{arith}
 use borrow.Author.Tests.{eq-eqb, ne_eqb}
 use lib.ListN.{length}
 use Rattle.text.specs.Read.{start_in}
-use borrow.Author.Rules.{rules}
 use Rattle.text.proofs.reading.start_of.Goals as goal
 
-none-start : (bytes : List ℕ) → length bytes ≡ 0 → start_in bytes ≡ 0
-none-start [] e = refl
-none-start (b ∷ bs) e = absurd (omega arith)
+none_start : (bytes : List ℕ) → length bytes ≡ 0 → start_in bytes ≡ 0
+none_start [] e = refl
+none_start (b ∷ bs) e = absurd (omega arith)
 
 pub returns-then-bytes-eq0 : goal.returns-then-bytes-eq0
-returns-then-bytes-eq0 c = sym (none-start c.args.bytes.now c.if-bytes-eq0.true)
+returns-then-bytes-eq0 c = sym (none_start c.args.bytes.now c.if-bytes-eq0.true)
 
 pub returns-then-bytes-eq45 : goal.returns-then-bytes-eq45
 returns-then-bytes-eq45 c = simp (eq-eqb _ _ c.if-bytes-eq45.true)
