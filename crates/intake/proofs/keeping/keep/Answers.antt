@@ -1,9 +1,7 @@
 -- After each turn one byte more stands in front. Assumes nothing.
 use mathlib.Core.Path.{◌≡◌, refl, ◌∙◌, ap}
-use Prim.Native.Nat.{◌≤◌, ◌-◌}
 use native.Mathlib.Omega.{arith}
-use borrow.Author.Rules.{rules}
-use lib.ListN.{length, length-set}
+use lib.ListN.{length-set}
 use Rattle.intake.specs.Keeping.{kept_count}
 use Rattle.intake.proofs.Kept.{moved, none_moved, one_moved, all_moved}
 use Rattle.intake.proofs.keeping.keep.Goals as goal

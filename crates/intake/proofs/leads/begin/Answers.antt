@@ -1,6 +1,5 @@
 -- The definition goes by the same test. Assumes nothing.
 use borrow.Author.Tests.{eq-eqb, ne_eqb}
-use borrow.Author.Rules.{rules}
 use Rattle.intake.proofs.leads.begin.Goals as goal
 
 pub returns-then-byte-eq99 : goal.returns-then-byte-eq99

@@ -1,6 +1,5 @@
 -- The definition goes by the same cases. Assumes nothing.
 use borrow.Author.Tests.{eq-eqb, ne_eqb}
-use borrow.Author.Rules.{rules}
 use Rattle.intake.proofs.leads.lead_after.Goals as goal
 
 pub returns-then-byte-eq32 : goal.returns-then-byte-eq32

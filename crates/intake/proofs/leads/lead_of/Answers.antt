@@ -1,10 +1,6 @@
 -- After each turn one byte more is known. Assumes nothing.
-use mathlib.Core.Path.{◌≡◌, refl}
-use Prim.Native.Nat.{◌-◌, ◌≤◌}
+use mathlib.Core.Path.{refl}
 use native.Mathlib.Omega.{arith}
-use borrow.Author.Rules.{rules}
-use lib.ListN.{length, drop}
-use Rattle.intake.specs.Leads.{lead_of}
 use Rattle.intake.proofs.Heads.{next_byte, no_byte}
 use Rattle.intake.proofs.leads.lead_of.Goals as goal
 

@@ -1,6 +1,5 @@
 -- The sign and the magnitude at the place, passed in the type. Assumes nothing.
 use mathlib.Core.Path.{◌∙◌}
-use borrow.Author.Rules.{rules}
 use Rattle.whole.proofs.Laws.{read_back}
 use Rattle.intake.proofs.numbers.i64_at.Goals as goal
 

@@ -1,6 +1,5 @@
 -- Past the end of the list stands nothing. Assumes nothing.
 use mathlib.Core.Path.{sym}
-use borrow.Author.Rules.{rules}
 use lib.ListN.{get_or-eq_default}
 use Rattle.intake.proofs.numbers.magnitude_at.Goals as goal
 

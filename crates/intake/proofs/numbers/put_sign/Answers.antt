@@ -1,6 +1,5 @@
 -- Past the end of the list nothing is written. Assumes nothing.
 use mathlib.Core.Path.{sym}
-use borrow.Author.Rules.{rules}
 use lib.Seq.{set_out}
 use Rattle.intake.proofs.numbers.put_sign.Goals as goal
 

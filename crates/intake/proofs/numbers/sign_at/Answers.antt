@@ -1,7 +1,6 @@
 -- Past the end of the list stands nothing. Assumes nothing.
 use mathlib.Core.Path.{sym}
 use mathlib.Core.Bool.{false}
-use borrow.Author.Rules.{rules}
 use lib.ListN.{get_or-eq_default}
 use Rattle.intake.proofs.numbers.sign_at.Goals as goal
 

@@ -1,5 +1,4 @@
 -- The sign and the magnitude at the place, passed in the type. Assumes nothing.
-use borrow.Author.Rules.{rules}
 use Rattle.intake.proofs.numbers.u32_at.Goals as goal
 
 pub returns : goal.returns
