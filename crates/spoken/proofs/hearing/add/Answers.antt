@@ -1,6 +1,5 @@
 -- Over the count of many they stay. Assumes nothing.
 use borrow.Author.Tests.{lt-ltb, le-ltb}
-use borrow.Author.Rules.{rules}
 use Rattle.spoken.proofs.hearing.add.Goals as goal
 
 pub returns-then-count-gt-MANY : goal.returns-then-count-gt-MANY

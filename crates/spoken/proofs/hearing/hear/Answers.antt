@@ -1,7 +1,6 @@
 -- A text where one is awaited, a code where a currency may stand, else a number. Assumes nothing.
 use mathlib.Core.Path.{sym, ◌∙◌}
 use Rattle.spoken.proofs.Steps.{as_text, as_code, as_number}
-use borrow.Author.Rules.{rules}
 use Rattle.spoken.proofs.hearing.hear.Goals as goal
 
 pub returns-then-heard : goal.returns-then-heard
@@ -21,7 +20,7 @@ pub returns : goal.returns
 returns c = let a = c.args in
     let kind = c.kind_at-kind.ensures in
     rw
-    (c.number_step_lem.ensures, c.read_number.ensures)
+    (c.number_step.ensures, c.read_number.ensures)
     (sym
     (as_number a.line.now a.word a.form a.heard c.if-heard.false
     (rw kind at (sym c.is_code.ensures ∙ c.if-is_code.false))))

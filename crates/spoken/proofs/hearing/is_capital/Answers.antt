@@ -4,8 +4,7 @@ use mathlib.Core.Bool.{true, false}
 use Prim.Native.Nat.{ℕ}
 use native.Mathlib.Omega.{arith}
 use lib.Dec.{ltb}
-use borrow.Author.Tests.{lt-ltb, le-ltb, le-leb, lt-leb, eq-eqb}
-use borrow.Author.Rules.{rules}
+use borrow.Author.Tests.{lt-ltb, le-leb, lt-leb}
 use Rattle.spoken.proofs.hearing.is_capital.Goals as goal
 
 -- whether there is a byte

@@ -1,6 +1,5 @@
 -- A currency may stand there, and the word begins with a capital. Assumes nothing.
 use mathlib.Core.Path.{sym, ◌∙◌}
-use borrow.Author.Rules.{rules}
 use Rattle.spoken.proofs.hearing.is_code.Goals as goal
 
 pub returns-then-is_unit : goal.returns-then-is_unit

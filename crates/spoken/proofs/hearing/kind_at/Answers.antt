@@ -1,5 +1,5 @@
 -- The first place and the fourth. Assumes nothing.
-use borrow.Author.Tests.{eq-eqb, ne_eqb}
+use borrow.Author.Tests.{ne_eqb}
 use Rattle.spoken.proofs.hearing.kind_at.Goals as goal
 
 pub returns-in-0 : goal.returns-in-0
