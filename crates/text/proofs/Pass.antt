@@ -7,7 +7,7 @@ use Prim.Native.Nat.{ℕ, ◌+◌, ◌-◌, ◌*◌, ◌^◌, ◌≤◌, ◌<◌
 use native.Mathlib.Nat.{pow-suc}
 use native.Mathlib.Numerals.{add-one}
 use native.Mathlib.Omega.{arith}
-use borrow.Author.Tests.{lt-ltb, le-ltb, ltb-false}
+use borrow.Author.Tests.{lt-ltb, le-ltb}
 use lib.Dec.{ltb, eqb}
 use lib.ListN.{length, get_or, take, drop, length-drop, drop_of_length-le}
 use lib.Seq.{slice, drop-cons, take-length}
@@ -19,7 +19,7 @@ use Rattle.currency.specs.Table.{unknown}
 use Rattle.text.specs.Read.{start_in, digits_end, fraction_from, number_at, scale_at, bad_whole, bad_fraction, bad_shape, read_said, made_said}
 use Rattle.text.specs.Scan.{digits_from, bad_point, rest_said}
 use Rattle.text.proofs.Digits.{worth_join}
-use Rattle.text.proofs.Accepted.{both_fail, first_fails, cut}
+use Rattle.text.proofs.Accepted.{first_fails, cut}
 use Rattle.text.proofs.Numbers.{malformed_said, shaped_said}
 
 module _ (passes : ℕ → Bool) (bytes : List ℕ) (i m : ℕ) where
@@ -53,11 +53,6 @@ module _ (bytes : List ℕ) (end : ℕ) where
   fraction_tests h =
       rw (lt-ltb end (length bytes) h)
       (regroup (not (eqb (get_or bytes end 0) 46)) (eqb (length bytes - (end + 1)) 0) (ltb 6 (length bytes - (end + 1))) (ltb (digits_end bytes (end + 1)) (length bytes)))
-
-  pub point_few : bad_point bytes end ≡ false → scale_at (length bytes) end ≤ 6
-  point_few good =
-      ltb-false 6 (length bytes - (end + 1))
-      (both_fail (eqb (length bytes - (end + 1)) 0) _ (both_fail (not (eqb (get_or bytes end 0) 46)) _ good).1).1
 
   -- digits up to the end are all that is left
   pub all_left : end < length bytes → length bytes ≤ digits_end bytes (end + 1) → digits_from bytes (end + 1) ≡ fraction_from bytes end

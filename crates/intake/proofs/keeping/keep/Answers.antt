@@ -12,9 +12,6 @@ loop-i-init c = (omega arith, refl, none_moved _ _ 0)
 pub loop-i-preserved : goal.loop-i-preserved
 loop-i-preserved c = (omega arith, simp length-set c.loop-i.invariant.1, one_moved c.args.text.now c.args.from 0 _ _ c.loop-i.invariant.2)
 
-pub shape_of-text : goal.shape_of-text
-shape_of-text c = c.loop-i.invariant.1
-
 pub returns : goal.returns
 returns c = let args = c.args in
     let counted = c.count_of-count.ensures in

@@ -1,11 +1,7 @@
 -- After each turn one byte more is known. Assumes nothing.
-use mathlib.Core.Path.{refl}
 use native.Mathlib.Omega.{arith}
 use Rattle.intake.proofs.Heads.{next_byte, no_byte}
 use Rattle.intake.proofs.leads.lead_of.Goals as goal
-
-pub loop-i-init : goal.loop-i-init
-loop-i-init c = (omega arith, refl)
 
 pub loop-i-preserved : goal.loop-i-preserved
 loop-i-preserved c = (omega arith, next_byte _ _ _ _ _ c.loop-i-test.true c.loop-i.invariant.1 c.lead_after-lead.ensures)

@@ -10,9 +10,6 @@ use Rattle.intake.proofs.lists.read_coefficients.Goals as goal
 pub loop-i-init : goal.loop-i-init
 loop-i-init c = none_written _ _ _ _
 
-pub shape_of-coefficients-then-coefficients-count : goal.shape_of-coefficients-then-coefficients-count
-shape_of-coefficients-then-coefficients-count c = c.loop-i.invariant.sized
-
 pub returns-then-coefficients-count : goal.returns-then-coefficients-count
 returns-then-coefficients-count c =
     let both = no_room _ _ _ _ _ _ _ c.loop-i.invariant c.if-coefficients-count.true in
@@ -22,9 +19,6 @@ pub loop-i-preserved : goal.loop-i-preserved
 loop-i-preserved c = let held : SFits w64 c.i64_at.result = search rules in
     one_written _ _ _ _ _ _ _ c.loop-i.invariant _ c.loop-i-test.true c.if-coefficients-count.false
     (to_z-of_z w64 c.i64_at.result held ∙ c.i64_at.ensures)
-
-pub shape_of-coefficients : goal.shape_of-coefficients
-shape_of-coefficients c = c.loop-i.invariant.sized
 
 pub returns : goal.returns
 returns c =

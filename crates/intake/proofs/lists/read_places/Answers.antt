@@ -5,9 +5,6 @@ use Rattle.intake.proofs.lists.read_places.Goals as goal
 pub loop-i-init : goal.loop-i-init
 loop-i-init c = none_written _ _ _ _
 
-pub shape_of-places-then-places-count : goal.shape_of-places-then-places-count
-shape_of-places-then-places-count c = c.loop-i.invariant.sized
-
 pub returns-then-places-count : goal.returns-then-places-count
 returns-then-places-count c =
     let both = no_room _ _ _ _ _ _ _ c.loop-i.invariant c.if-places-count.true in
@@ -16,9 +13,6 @@ returns-then-places-count c =
 pub loop-i-preserved : goal.loop-i-preserved
 loop-i-preserved c = one_written _ _ _ _ _ _ _ c.loop-i.invariant _ c.loop-i-test.true c.if-places-count.false
     c.u16_at.ensures
-
-pub shape_of-places : goal.shape_of-places
-shape_of-places c = c.loop-i.invariant.sized
 
 pub returns : goal.returns
 returns c =

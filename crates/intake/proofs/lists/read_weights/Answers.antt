@@ -5,9 +5,6 @@ use Rattle.intake.proofs.lists.read_weights.Goals as goal
 pub loop-i-init : goal.loop-i-init
 loop-i-init c = none_written _ _ _ _
 
-pub shape_of-weights-then-weights-count : goal.shape_of-weights-then-weights-count
-shape_of-weights-then-weights-count c = c.loop-i.invariant.sized
-
 pub returns-then-weights-count : goal.returns-then-weights-count
 returns-then-weights-count c =
     let both = no_room _ _ _ _ _ _ _ c.loop-i.invariant c.if-weights-count.true in
@@ -16,9 +13,6 @@ returns-then-weights-count c =
 pub loop-i-preserved : goal.loop-i-preserved
 loop-i-preserved c = one_written _ _ _ _ _ _ _ c.loop-i.invariant _ c.loop-i-test.true c.if-weights-count.false
     c.u32_at.ensures
-
-pub shape_of-weights : goal.shape_of-weights
-shape_of-weights c = c.loop-i.invariant.sized
 
 pub returns : goal.returns
 returns c =

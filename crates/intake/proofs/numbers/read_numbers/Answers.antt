@@ -6,12 +6,6 @@ use Rattle.intake.proofs.numbers.read_numbers.Goals as goal
 pub loop-at-init : goal.loop-at-init
 loop-at-init c = none_taken _ _ _ _
 
-pub shape_of-signs-then-end-word : goal.shape_of-signs-then-end-word
-shape_of-signs-then-end-word c = c.loop-at.invariant.signs_sized
-
-pub shape_of-values-then-end-word : goal.shape_of-values-then-end-word
-shape_of-values-then-end-word c = c.loop-at.invariant.values_sized
-
 pub returns-then-end-word : goal.returns-then-end-word
 returns-then-end-word c =
     let all = empty_word _ _ _ _ _ _ _ _ c.loop-at.invariant _ c.word_from-word.ensures c.if-end-word.true in
@@ -30,12 +24,6 @@ pub loop-at-preserved : goal.loop-at-preserved
 loop-at-preserved c =
     let t = c.take_number.ensures in
     one_taken _ _ _ _ _ _ _ _ c.loop-at.invariant _ c.word_from-word.ensures (omega arith) _ _ _ (t.value, (t.signs_after, t.values_after)) (omega arith) c.if-not-take_number.false
-
-pub shape_of-signs : goal.shape_of-signs
-shape_of-signs c = c.loop-at.invariant.signs_sized
-
-pub shape_of-values : goal.shape_of-values
-shape_of-values c = c.loop-at.invariant.values_sized
 
 pub returns : goal.returns
 returns c =

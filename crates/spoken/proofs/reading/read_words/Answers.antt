@@ -6,12 +6,6 @@ use Rattle.spoken.proofs.reading.read_words.Goals as goal
 pub loop-at-init : goal.loop-at-init
 loop-at-init c = none_heard _ _ _ _ _ _ c.nothing_heard-heard.ensures
 
-pub shape_of-signs-then-end-word : goal.shape_of-signs-then-end-word
-shape_of-signs-then-end-word c = c.loop-at.invariant.signs_sized
-
-pub shape_of-values-then-end-word : goal.shape_of-values-then-end-word
-shape_of-values-then-end-word c = c.loop-at.invariant.values_sized
-
 pub returns-then-end-word : goal.returns-then-end-word
 returns-then-end-word c =
     let all = empty_word_lem _ _ _ _ _ _ _ _ _ c.loop-at.invariant _ c.spoken_of.ensures _ c.word_from-word.ensures c.if-end-word.true in
@@ -27,12 +21,6 @@ pub loop-at-preserved : goal.loop-at-preserved
 loop-at-preserved c =
     let put = c.put_step.ensures in
     one_heard _ _ _ _ _ _ _ _ _ c.loop-at.invariant _ _ _ _ c.word_from-word.ensures (omega arith) (omega arith) c.hear-step.ensures put.signs_after put.values_after
-
-pub shape_of-signs : goal.shape_of-signs
-shape_of-signs c = c.loop-at.invariant.signs_sized
-
-pub shape_of-values : goal.shape_of-values
-shape_of-values c = c.loop-at.invariant.values_sized
 
 pub returns : goal.returns
 returns c =

@@ -1,5 +1,5 @@
 -- The number is the same from every line that the loop came to: no line before it has the code. Assumes nothing.
-use mathlib.Core.Path.{◌≡◌, refl, sym, ◌∙◌, ap}
+use mathlib.Core.Path.{◌≡◌, sym, ◌∙◌, ap}
 use mathlib.Core.Bool.{Bool}
 use Prim.Native.Nat.{ℕ}
 use native.Mathlib.Omega.{arith}
@@ -9,9 +9,6 @@ use Rattle.currency.specs.Table.{none, currencies, line_of}
 use Rattle.text.specs.Codes.{has_code}
 use Rattle.text.proofs.ByCode.{scan_on, scan_ends, scan_out}
 use Rattle.text.proofs.codes.by_letters.Goals as goal
-
-pub loop-i-init : goal.loop-i-init
-loop-i-init c = (omega arith, refl)
 
 -- the line that is asked is the table's
 asked : (a b c i : ℕ) (r : Bool) (line : Line) → r ≡ has_code a b c line → line ≡ line_of (record { 0 = i }) → has_code a b c (get_or currencies i none) ≡ r
@@ -24,9 +21,6 @@ returns-then-has_code c =
     sym
     (c.loop-i.invariant.1
     ∙ scan_ends a.a a.b a.c currencies c.loop-i.i (omega arith) (asked _ _ _ _ _ _ c.has_code.ensures c.line_of.ensures ∙ c.if-has_code.true))
-
-pub loop-i-smaller : goal.loop-i-smaller
-loop-i-smaller c = omega arith
 
 pub loop-i-preserved : goal.loop-i-preserved
 loop-i-preserved c =

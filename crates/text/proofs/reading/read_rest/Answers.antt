@@ -2,8 +2,7 @@
 use mathlib.Core.Path.{◌≡◌, sym, ◌∙◌, ap, ap₂}
 use mathlib.Core.Bool.{Bool, true, false, ◌||◌}
 use mathlib.Core.List.{List}
-use Prim.Native.Nat.{ℕ, ◌+◌, ◌^◌, ◌≤◌, ◌<◌}
-use native.Mathlib.Nat.{pow-le-pow_right}
+use Prim.Native.Nat.{ℕ, ◌+◌, ◌≤◌, ◌<◌}
 use native.Mathlib.Omega.{arith}
 use borrow.Author.Tests.{lt-ltb, le-ltb}
 use lib.Dec.{ltb}
@@ -11,7 +10,7 @@ use lib.ListN.{length}
 use Rattle.lines.specs.Lines.{worth}
 use Rattle.text.specs.Scan.{bad_point}
 use Rattle.text.specs.Read.{digits_end, bad_fraction, made_said}
-use Rattle.text.proofs.Pass.{fraction_tests, point_few, all_left, rest_ended, rest_refused, rest_made}
+use Rattle.text.proofs.Pass.{fraction_tests, all_left, rest_ended, rest_refused, rest_made}
 use Rattle.text.proofs.reading.read_rest.Goals as goal
 
 -- the tests in their order
@@ -36,10 +35,6 @@ returns-then-bad_point c = let a = c.args in
     rest_refused a.currency a.negative a.bytes.now a.end a.number
     (fraction_tests a.bytes.now a.end c.if-bytes-end.false ∙ point_first _ _ (sym c.bad_point.ensures ∙ c.if-bad_point.true))
 
-pub scan-fraction-requires : goal.scan-fraction-requires
-scan-fraction-requires c = let more : 10 ^ c.args.end ≤ 10 ^ (c.args.end + 1) = pow-le-pow_right (omega arith) {i = c.args.end} {j = c.args.end + 1} (omega arith) in
-    (omega (arith, c.if-bytes-end.false), c.requires.1, omega (arith, c.requires.2, more))
-
 pub returns-then-fraction-bytes : goal.returns-then-fraction-bytes
 returns-then-fraction-bytes c =
     let a = c.args in
@@ -47,10 +42,6 @@ returns-then-fraction-bytes c =
     rest_refused a.currency a.negative bytes a.end a.number
     (last_test bytes a.end _ c.if-bytes-end.false c.bad_point.ensures c.if-bad_point.false
     ∙ lt-ltb (digits_end bytes (a.end + 1)) (length bytes) (omega (arith, c.if-fraction-bytes.true, c.scan-fraction.ensures.ends)))
-
-pub scale_of-scale-requires : goal.scale_of-scale-requires
-scale_of-scale-requires c = let a = c.args in
-    point_few a.bytes.now a.end (sym c.bad_point.ensures ∙ c.if-bad_point.false)
 
 pub returns : goal.returns
 returns c =

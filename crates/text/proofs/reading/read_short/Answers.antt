@@ -2,7 +2,6 @@
 use mathlib.Core.Path.{◌≡◌, sym, ◌∙◌}
 use mathlib.Core.List.{List}
 use Prim.Native.Nat.{ℕ, ◌≤◌}
-use native.Mathlib.Nat.{one-le-pow}
 use native.Mathlib.Omega.{arith}
 use lib.ListN.{length}
 use Rattle.text.specs.Read.{start_in, digits_end}
@@ -15,13 +14,6 @@ end_inside : (bytes : List ℕ) (start end : ℕ) → start ≡ start_in bytes �
 end_inside bytes start end starts ends =
     let first : start ≤ length bytes = omega (arith, starts, start_inside bytes) in
     omega (arith, ends, within bytes start first)
-
-pub scan-whole-requires : goal.scan-whole-requires
-scan-whole-requires c = (
-  omega (arith, c.start_of-start.ensures, start_inside c.args.bytes.now),
-  c.requires.1,
-  omega (arith, one-le-pow c.start_of-start.result 10 (omega arith)),
-)
 
 pub bad_whole-requires : goal.bad_whole-requires
 bad_whole-requires c =

@@ -1,6 +1,6 @@
 -- The loop's invariant: the digits end where they end from the place that the loop came to, and what they make is what those that are left make behind the number
 -- so far, which has at most as many digits as bytes were passed. Assumes nothing.
-use mathlib.Core.Path.{refl, sym, ◌∙◌}
+use mathlib.Core.Path.{sym, ◌∙◌}
 use Prim.Native.Nat.{ℕ, ◌+◌, ◌-◌, ◌*◌, ◌^◌, ◌≤◌, ◌<◌}
 use native.Mathlib.Nat.{pow-le-pow_right}
 use native.Mathlib.Omega.{arith}
@@ -10,9 +10,6 @@ use Rattle.lines.proofs.Scans.{digit, below_digits, above_digits}
 use Rattle.lines.proofs.Spans.{on, ended, out}
 use Rattle.text.proofs.Pass.{goes_on_lem, stops, runs_out, grows}
 use Rattle.text.proofs.reading.scan.Goals as goal
-
-pub loop-i-init : goal.loop-i-init
-loop-i-init c = (c.requires.0, c.requires.2, refl, refl)
 
 pub returns-then-next-lt48 : goal.returns-then-next-lt48
 returns-then-next-lt48 c = let bytes = c.args.bytes.now in

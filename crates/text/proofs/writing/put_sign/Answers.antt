@@ -6,9 +6,6 @@ use Rattle.lines.proofs.Fills.{behind}
 use Rattle.text.proofs.Placed.{put_none}
 use Rattle.text.proofs.writing.put_sign.Goals as goal
 
-pub returns-then-negative : goal.returns-then-negative
-returns-then-negative c = rw c.if-negative.true (record { out_after = c.put_bytes.ensures.out_after; value = c.put_bytes.ensures.value })
-
 pub returns-else-negative : goal.returns-else-negative
 returns-else-negative c =
     let out = c.args.out.now in

@@ -14,7 +14,7 @@ use Rattle.amount.specs.declared.Amount.{Amount}
 use Rattle.whole.specs.Whole.{negative, magnitude_of}
 use Rattle.amount.specs.Amounts.{amount_rows}
 use Rattle.text.specs.Written.{spelled, text_of, room_said, Writes}
-use Rattle.text.proofs.Placed.{passed_said, passed_scale, refused_writes}
+use Rattle.text.proofs.Placed.{passed_said, refused_writes}
 use borrow.Author.Rules.{rules}
 use Rattle.text.proofs.writing.write.Goals as goal
 
@@ -31,12 +31,6 @@ checked
     : (a : Amount) (m : ℕ) (r : Checked) → m ≡ magnitude_of a.coefficient → r ≡ check_of (amount_rows a.scale m a.currency)
     → check_of (amount_rows a.scale (magnitude_of a.coefficient) a.currency) ≡ r
 checked a m r e f = sym (f ∙ ap (λ (k : ℕ). check_of (amount_rows a.scale k a.currency)) e)
-
-pub write_text-requires : goal.write_text-requires
-write_text-requires c =
-    let a = c.args.amount in
-    let m = magnitude_is a.coefficient (search rules) _ c.magnitude-m.ensures in
-    passed_scale a c.args.out.now (checked a _ _ m c.check_one.ensures ∙ c.in-Passed.is)
 
 pub returns-in-Refused : goal.returns-in-Refused
 returns-in-Refused c =
