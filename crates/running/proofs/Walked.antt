@@ -70,6 +70,10 @@ module _ (ws : List ℕ) (sum n : ℕ) (full : List ℕ) (u : ℕ) (s : Shares w
       pub settled_within : settled + get_or slots (t - u) 0 ≤ n + partners
       settled_within = omega (arith, settled_next, full_by_lem (t + 1), counted, ahead_bound ws n some t w.upto, long)
 
+      -- so with one more it is small
+      pub settled_small : settled + get_or slots (t - u) 0 ≤ 10016
+      settled_small = omega (arith, settled_within, s.part)
+
       module _ (inside : t < n) where
         -- a full unit
         pub walked_full : t < settled + get_or slots (t - u) 0 → Walked ws n u (t + 1) ahead (settled + get_or slots (t - u) 0)

@@ -49,17 +49,3 @@ loop-i-preserved c =
     let i = c.loop-i.i in
     let earlier : sum_of (drop i ws) + get_or ws (i - 1) 0 ≡ sum_of (drop (i - 1) ws) = sum_earlier ws i (omega arith) (omega arith) in
     (omega arith, omega arith, omega arith, λ b. omega arith)
-
-pub returns : goal.returns
-returns c =
-    let long : length c.args.weights ≡ 16 = search rules in
-    go (dec_lt c.loop-i.i c.args.from)
-  where
-    go : Dec (c.loop-i.i < c.args.from) → c.loop-i.sum ≡ sum_of (drop c.args.from c.args.weights)
-    go (yes b) =
-        let h = long in
-        let e = c.loop-i.invariant.3 b in
-        omega (arith, sum_past c.args.weights c.loop-i.i (omega arith), sum_past c.args.weights c.args.from (omega arith))
-    go (no b) =
-        let e : c.loop-i.i ≡ c.args.from = omega arith in
-        c.loop-i.invariant.1 ∙ ap (λ (k : ℕ). sum_of (drop k c.args.weights)) e
