@@ -1,12 +1,10 @@
 -- The sum over the places passed, at most 100,000,000 for each. Assumes nothing.
 use mathlib.Core.Path.{◌≡◌, refl, ap, ◌∙◌}
-use mathlib.Core.Logic.{⊎_elim}
-use Prim.Native.Nat.{ℕ, ◌+◌, ◌-◌, ◌*◌, ◌≤◌}
+use Prim.Native.Nat.{◌-◌, ◌*◌, ◌≤◌}
 use native.Mathlib.Omega.{arith}
-use borrow.Author.Rules.{rules}
 use lib.ListN.{get_or}
 use Rattle.units.specs.Window.{places_sum}
-use Rattle.units.proofs.Loops.{sum_start, sum_step}
+use Rattle.units.proofs.Loops.{sum_step}
 use Rattle.running.proofs.Fitting.{product}
 use Rattle.running.proofs.full.mass.Goals as goal
 use Rattle.running.proofs.full.mass.Goals.{then-taken-reached, else-taken-reached}
@@ -49,6 +47,6 @@ loop-i-preserved c =
     product a.t (get_or a.weights i 0) c.requires.early (c.requires.weigh i c.loop-i-test.true) in
     let step = sum_step (λ k. a.t * get_or a.weights k 0 - get_or a.full k 0 * a.sum) i in
     elim c.if-taken-reached.branch [
-      then-taken-reached w ↦ (omega arith, omega arith, omega arith)
-    | else-taken-reached w ↦ (omega arith, omega arith, omega arith)
+      | then-taken-reached w ↦ (omega arith, omega arith, omega arith)
+      | else-taken-reached w ↦ (omega arith, omega arith, omega arith)
     ]

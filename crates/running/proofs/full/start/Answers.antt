@@ -1,18 +1,12 @@
 -- Where the test passed the mass is below W; at 0 there is none. Assumes nothing.
 use mathlib.Core.Path.{◌≡◌}
-use Prim.Native.Nat.{◌-◌, ◌≤◌}
+use Prim.Native.Nat.{◌-◌}
 use native.Mathlib.Omega.{arith}
 use borrow.Author.Rules.{rules}
 use lib.ListN.{length}
 use Rattle.units.proofs.Start.{mass_none}
 use Rattle.running.proofs.Fitting.{small, mass_is}
 use Rattle.running.proofs.full.start.Goals as goal
-
-pub loop-back-init : goal.loop-back-init
-loop-back-init c = omega arith
-
-pub overflow_sub-u : goal.overflow_sub-u
-overflow_sub-u c = omega arith
 
 pub mass-requires : goal.mass-requires
 mass-requires c =
@@ -29,15 +23,6 @@ returns-then-mass-sum c =
       before = omega arith;
       light = omega (arith, mass_is a.weights a.sum a.n a.full c.requires long u, c.mass.ensures, c.if-mass-sum.true, c.requires.same);
     }
-
-pub overflow_mul-back : goal.overflow_mul-back
-overflow_mul-back c = omega (arith, c.requires.part)
-
-pub loop-back-smaller : goal.loop-back-smaller
-loop-back-smaller c = omega arith
-
-pub loop-back-preserved : goal.loop-back-preserved
-loop-back-preserved c = omega arith
 
 pub returns : goal.returns
 returns c =

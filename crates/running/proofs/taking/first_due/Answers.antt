@@ -1,8 +1,6 @@
 -- The scan of all places holds the one that is due first, or 16. Two numbers of 32 bits multiply to one of 64. Assumes nothing.
 use mathlib.Core.Path.{◌≡◌, subst}
-use mathlib.Core.Logic.{⊎_elim}
-use mathlib.Core.List.{List}
-use Prim.Native.Nat.{ℕ, ◌+◌, ◌-◌, ◌*◌, ◌^◌, ◌≤◌, ◌<◌}
+use Prim.Native.Nat.{ℕ, ◌*◌, ◌^◌, ◌≤◌, ◌<◌}
 use native.Mathlib.Nat.{mul-le-mul}
 use native.Mathlib.Omega.{arith}
 use borrow.Author.Rules.{rules}
@@ -11,7 +9,7 @@ use mir.Syntax.{w32}
 use mir.Val.{Fits}
 use Rattle.running.specs.Taking.{may_now, first_due}
 use Rattle.running.proofs.Scan.{Scanned, scan_end}
-use Rattle.running.proofs.FirstDue.{Scan, start, later, not_yet, sooner_due}
+use Rattle.running.proofs.FirstDue.{start, later, not_yet, sooner_due}
 use Rattle.running.proofs.taking.first_due.Goals as goal
 use Rattle.running.proofs.taking.first_due.Goals.{then-due-i+then-held-i, then-due-i+else-held-i, else-due-i}
 
@@ -47,9 +45,9 @@ loop-i-preserved c =
     let l = c.loop-i in
     let inside = c.loop-i-test.true in
     elim c.if-due-i.branch [
-      then-due-i+then-held-i w ↦
-        rw (w.best-is, w.least-is) (sooner_due a.weights a.sum a.held a.due a.t l.i l.best l.least l.invariant inside w.if-held-i.true w.if-due-i.true)
-    | then-due-i+else-held-i w ↦
-        rw (w.best-is, w.least-is) (not_yet a.weights a.sum a.held a.due a.t l.i l.best l.least l.invariant inside w.if-held-i.false w.if-due-i.true)
-    | else-due-i w ↦ rw (w.best-is, w.least-is) (later a.weights a.sum a.held a.due a.t l.i l.best l.least l.invariant inside w.if-due-i.false)
+      | then-due-i+then-held-i w ↦
+          rw (w.best-is, w.least-is) (sooner_due a.weights a.sum a.held a.due a.t l.i l.best l.least l.invariant inside w.if-held-i.true w.if-due-i.true)
+      | then-due-i+else-held-i w ↦
+          rw (w.best-is, w.least-is) (not_yet a.weights a.sum a.held a.due a.t l.i l.best l.least l.invariant inside w.if-held-i.false w.if-due-i.true)
+      | else-due-i w ↦ rw (w.best-is, w.least-is) (later a.weights a.sum a.held a.due a.t l.i l.best l.least l.invariant inside w.if-due-i.false)
     ]

@@ -1,11 +1,10 @@
 -- At each place the whole cycles, the full units of what is left, and one more where the place is ahead. Assumes nothing.
-use mathlib.Core.Path.{◌≡◌, refl, ap, ◌∙◌}
-use Prim.Native.Nat.{ℕ, ◌+◌, ◌-◌, ◌*◌, ◌/◌, ◌%◌, ◌≤◌}
+use mathlib.Core.Path.{◌≡◌, refl, ◌∙◌}
+use Prim.Native.Nat.{ℕ, ◌+◌, ◌*◌, ◌/◌, ◌%◌, ◌≤◌}
 use native.Mathlib.Nat.{mod-lt}
 use native.Mathlib.Omega.{arith}
 use borrow.Author.Rules.{rules}
 use lib.ListN.{length, get_or}
-use Rattle.whole.specs.Lists.{filled}
 use Rattle.whole.proofs.Lists.{fill_none}
 use Rattle.units.specs.Rule.{totals}
 use Rattle.units.proofs.Added.{length_totals}
@@ -14,30 +13,15 @@ use Rattle.running.proofs.Places.{fill_next, filled_whole}
 use Rattle.running.proofs.Cycles.{total_within, with_cycles}
 use Rattle.running.proofs.totals.by_shares.Goals as goal
 
-pub nonzero_div-cycles : goal.nonzero_div-cycles
-nonzero_div-cycles c = c.requires.1
-
-pub nonzero_rem-left : goal.nonzero_rem-left
-nonzero_rem-left c = c.requires.1
-
 pub overflow_cast-left : goal.overflow_cast-left
 overflow_cast-left c =
     let rest : c.args.n % c.args.sum ≤ 10000 = omega (arith, mod-lt c.args.n {m = c.args.sum} c.requires.1, c.requires.2) in
     omega (arith, rest)
 
-pub overflow_cast-sum : goal.overflow_cast-sum
-overflow_cast-sum c = omega (arith, c.requires.2)
-
 pub full_units-full-requires : goal.full_units-full-requires
 full_units-full-requires c =
     let rest : c.args.n % c.args.sum ≤ 10000 = omega (arith, mod-lt c.args.n {m = c.args.sum} c.requires.1, c.requires.2) in
     (c.requires.0, c.requires.1, c.requires.2, rest)
-
-pub overflow_cast-sum-2 : goal.overflow_cast-sum-2
-overflow_cast-sum-2 c = omega (arith, c.requires.2)
-
-pub ahead_at-ahead-requires : goal.ahead_at-ahead-requires
-ahead_at-ahead-requires c = c.full_units-full.ensures
 
 pub loop-i-init : goal.loop-i-init
 loop-i-init c = (omega arith, fill_none 0 _ zeros)

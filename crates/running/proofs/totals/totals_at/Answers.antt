@@ -1,7 +1,6 @@
 -- Within the limits the totals by the shares; else the weights break their rule. Assumes nothing.
 use mathlib.Core.Path.{sym, ◌∙◌}
 use native.Mathlib.Omega.{arith}
-use borrow.Author.Rules.{rules}
 use Rattle.running.proofs.Total.{breaks_none, breaks_many, totals_are, totals_broken}
 use Rattle.running.proofs.totals.totals_at.Goals as goal
 

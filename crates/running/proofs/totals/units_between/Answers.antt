@@ -1,11 +1,9 @@
 -- Within the limits the totals by the shares, the one less the other; else the weights break their rule, or there are none between.
 -- Assumes nothing.
 use mathlib.Core.Path.{◌≡◌, sym, ap₂, ◌∙◌}
-use Prim.Native.Nat.{◌≤◌}
 use native.Mathlib.Omega.{arith}
 use borrow.Author.Rules.{rules}
 use lib.ListN.{length}
-use Rattle.whole.specs.Sums.{sum_of}
 use Rattle.units.proofs.Added.{never_fall}
 use Rattle.running.specs.Totals.{less_of}
 use Rattle.running.proofs.Total.{breaks_none, breaks_many, between_are, between_broken, between_exchanged}

@@ -1,7 +1,6 @@
 -- Ten thousand slots serve any window. Assumes nothing.
 use mathlib.Core.Path.{refl}
 use native.Mathlib.Omega.{arith}
-use borrow.Author.Rules.{rules}
 use Rattle.running.proofs.window.by_many.Goals as goal
 
 pub by_slots-requires : goal.by_slots-requires

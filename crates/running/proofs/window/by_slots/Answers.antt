@@ -1,8 +1,6 @@
 -- Each turn lays one place's full units down, and counts those before the window. Assumes nothing.
 use mathlib.Core.Path.{◌≡◌, subst}
-use mathlib.Core.Logic.{⊎_elim}
-use Prim.Native.Nat.{ℕ, ◌+◌, ◌-◌, ◌*◌, ◌/◌, ◌≤◌, ◌<◌}
-use native.Mathlib.Nat.{div-le_self}
+use Prim.Native.Nat.{ℕ, ◌+◌, ◌-◌, ◌*◌, ◌/◌, ◌≤◌}
 use native.Mathlib.Omega.{arith}
 use borrow.Author.Rules.{rules}
 use lib.ListN.{length, get_or}
@@ -25,9 +23,6 @@ overflow_mul-first c =
     (weight_within a.weights a.sum a.n a.full c.requires.shares long c.loop-i.i) in
     omega (arith, reached)
 
-pub overflow_sub-first : goal.overflow_sub-first
-overflow_sub-first c = c.requires.shares.some
-
 pub overflow_add-first : goal.overflow_add-first
 overflow_add-first c =
     let long : length c.args.weights ≡ 16 = search rules in
@@ -37,9 +32,6 @@ overflow_add-first c =
     (weight_within a.weights a.sum a.n a.full c.requires.shares long c.loop-i.i) in
     omega (arith, reached, c.requires.shares.most)
 
-pub nonzero_div-first : goal.nonzero_div-first
-nonzero_div-first c = c.requires.shares.some
-
 pub lay-requires : goal.lay-requires
 lay-requires c =
     let long : length c.args.weights ≡ 16 = search rules in
@@ -47,7 +39,6 @@ lay-requires c =
     let a = c.args in
     let l = c.loop-i in
     first_is a.weights a.sum a.n a.full a.u a.slots.now c.requires.shares long c.requires.empty l.i l.taken l.slots l.invariant c.loop-i-test.true in
-   
     let a = c.args in
     let l = c.loop-i in
     laying a.weights a.sum a.n a.full a.u a.slots.now c.requires.shares long c.requires.empty l.i l.taken l.slots l.invariant c.loop-i-test.true
@@ -107,9 +98,6 @@ shape_of-slots c = let a = c.args in
     let l = c.loop-i in
     length_filled a.weights a.n a.u a.slots.now l.i l.taken l.slots l.invariant
 
-pub returns : goal.returns
-returns c = c.walk.ensures
-
 pub loop-i-preserved : goal.loop-i-preserved
 loop-i-preserved c =
     let a = c.args in
@@ -120,9 +108,9 @@ loop-i-preserved c =
     let first_of : (a.u * get_or a.weights l.i 0 + (a.sum - 1)) / a.sum ≡ first_at a.weights a.u l.i =
     first_is a.weights a.sum a.n a.full a.u a.slots.now r.shares long r.empty l.i l.taken l.slots l.invariant inside in
     elim c.if-first-full.branch [
-      then-first-full w ↦ rw (w.taken-is, w.slots-is)
-        (filled_lay a.weights a.sum a.n a.full a.u a.slots.now r.shares long r.empty l.i l.taken l.slots l.invariant inside _ first_of w.if-first-full.true
-        _ w.lay.ensures)
-    | else-first-full w ↦ rw (w.taken-is, w.slots-is)
-        (filled_none a.weights a.sum a.n a.full a.u a.slots.now r.shares long r.empty l.i l.taken l.slots l.invariant inside _ first_of w.if-first-full.false)
+      | then-first-full w ↦ rw (w.taken-is, w.slots-is)
+          (filled_lay a.weights a.sum a.n a.full a.u a.slots.now r.shares long r.empty l.i l.taken l.slots l.invariant inside _ first_of w.if-first-full.true
+          _ w.lay.ensures)
+      | else-first-full w ↦ rw (w.taken-is, w.slots-is)
+          (filled_none a.weights a.sum a.n a.full a.u a.slots.now r.shares long r.empty l.i l.taken l.slots l.invariant inside _ first_of w.if-first-full.false)
     ]

@@ -1,9 +1,9 @@
 -- Each turn settles unit t + 1. Assumes nothing.
-use mathlib.Core.Path.{◌≡◌, sym, ap, ◌∙◌}
-use Prim.Native.Nat.{ℕ, ◌+◌, ◌-◌, ◌≤◌, ◌<◌}
+use mathlib.Core.Path.{◌≡◌, ap, ◌∙◌}
+use Prim.Native.Nat.{ℕ, ◌-◌}
 use native.Mathlib.Omega.{arith}
 use borrow.Author.Rules.{rules}
-use lib.ListN.{length, get_or}
+use lib.ListN.{length}
 use Rattle.units.specs.Window.{full_by, ahead_after}
 use Rattle.running.proofs.Straddling.{marked_none, marked_one}
 use Rattle.running.proofs.Walked.{walked_start, long_ahead, settled_small, walked_full, walked_straddle, walked_nobody}
@@ -18,12 +18,6 @@ loop-t-init c =
       rw r.taken_value (walked_start a.weights a.sum a.n a.full a.u r.shares r.starts long),
       marked_none a.weights a.sum a.n a.full r.shares long c.due_numbers-due.result (search rules) c.due_numbers-due.ensures,
     )
-
-pub overflow_sub-settled : goal.overflow_sub-settled
-overflow_sub-settled c = c.loop-t.invariant.0.from
-
-pub bounds-slots-t : goal.bounds-slots-t
-bounds-slots-t c = omega (arith, c.loop-t.invariant.0.from, c.requires.listed.fits)
 
 pub overflow_cast-settled-in-loop-t : goal.overflow_cast-settled-in-loop-t
 overflow_cast-settled-in-loop-t c =
@@ -65,18 +59,18 @@ loop-t-preserved c =
     let inside = c.loop-t-test.true in
     let long : length a.weights ≡ 16 = search rules in
     elim c.if-settled-t.branch [
-      then-settled-t+then-p-lt-PARTNERS w ↦ rw (w.due-is, w.ahead-is, w.settled-is) (
+      | then-settled-t+then-p-lt-PARTNERS w ↦ rw (w.due-is, w.ahead-is, w.settled-is) (
         walked_straddle a.weights a.sum a.n a.full a.u r.shares r.starts long l.t l.ahead l.settled l.invariant.0 a.slots.now r.listed inside
             l.due l.invariant.1 w.if-settled-t.true w.first_due-p.result w.first_due-p.ensures w.if-p-lt-PARTNERS.true,
         marked_one a.weights a.sum a.n a.full r.shares long l.ahead l.due w.first_due-p.result
             (long_ahead a.weights a.sum a.n a.full a.u r.shares r.starts long l.t l.ahead l.settled l.invariant.0 ∙ long) w.if-p-lt-PARTNERS.true l.invariant.1,
       )
-    | then-settled-t+else-p-lt-PARTNERS w ↦ rw (w.due-is, w.ahead-is, w.settled-is) (
+      | then-settled-t+else-p-lt-PARTNERS w ↦ rw (w.due-is, w.ahead-is, w.settled-is) (
         walked_nobody a.weights a.sum a.n a.full a.u r.shares r.starts long l.t l.ahead l.settled l.invariant.0 a.slots.now r.listed inside
             l.due l.invariant.1 w.if-settled-t.true w.first_due-p.result w.first_due-p.ensures w.if-p-lt-PARTNERS.false,
         l.invariant.1,
       )
-    | else-settled-t w ↦ rw (w.due-is, w.ahead-is, w.settled-is) (
+      | else-settled-t w ↦ rw (w.due-is, w.ahead-is, w.settled-is) (
         walked_full a.weights a.sum a.n a.full a.u r.shares r.starts long l.t l.ahead l.settled l.invariant.0 a.slots.now r.listed inside w.if-settled-t.false,
         l.invariant.1,
       )
