@@ -1,6 +1,5 @@
 -- Each turn writes a row and gives one unit to its taker. Assumes nothing.
 use mathlib.Core.Path.{◌≡◌}
-use Prim.Native.Nat.{◌-◌, ◌<◌}
 use native.Mathlib.Omega.{arith}
 use borrow.Author.Rules.{rules}
 use lib.ListN.{length}
@@ -13,17 +12,8 @@ loop-n-init c =
     let a = c.args in
     walked_start a.weights a.sum a.table.now c.requires.weighed (search rules) c.requires.sum_in_bounds c.due_numbers-due.result (search rules) c.due_numbers-due.ensures
 
-pub overflow_add-n : goal.overflow_add-n
-overflow_add-n c = omega (arith, c.requires.weighed.most)
-
 pub row-requires : goal.row-requires
 row-requires c = record { weighed = c.requires.weighed; n_lt_sum = (c.loop-n-test.true, c.loop-n.invariant.walk.units) }
-
-pub overflow_cast-table : goal.overflow_cast-table
-overflow_cast-table c = omega (arith, c.requires.weighed.most)
-
-pub offset_bounds-table-n : goal.offset_bounds-table-n
-offset_bounds-table-n c = omega (arith, c.requires.weighed.most)
 
 pub bounds-table-n : goal.bounds-table-n
 bounds-table-n c =
@@ -86,9 +76,6 @@ bounds-due-p c =
     let a = c.args in
     let l = c.loop-n in
     found_inside a.weights a.sum l.n l.held l.due c.requires.weighed (search rules) c.loop-n-test.true l.invariant.walk _ c.first_due-p.ensures
-
-pub overflow_add-n-in-loop-n : goal.overflow_add-n-in-loop-n
-overflow_add-n-in-loop-n c = omega (arith, c.requires.weighed.most)
 
 pub loop-n-preserved : goal.loop-n-preserved
 loop-n-preserved c =

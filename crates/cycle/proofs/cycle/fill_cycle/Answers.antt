@@ -1,9 +1,7 @@
 -- Within the limits the walk fills the table; else it stays. Assumes nothing.
 use mathlib.Core.Path.{ap, ◌∙◌}
-use mathlib.Core.List.{List}
 use Prim.Native.Nat.{ℕ}
 use native.Mathlib.Omega.{arith}
-use borrow.Author.Rules.{rules}
 use Rattle.whole.specs.Lists.{filled}
 use Rattle.units.specs.Mask.{mask}
 use Rattle.running.proofs.Total.{keeps, breaks_none, breaks_many}

@@ -1,14 +1,13 @@
 -- Each turn adds one place's bit. Assumes nothing.
 use mathlib.Core.Path.{◌≡◌, ap}
-use mathlib.Core.Logic.{⊎_elim}
 use mathlib.Core.List.{List}
-use Prim.Native.Nat.{ℕ, ◌-◌, ◌≤◌, ◌<◌}
+use Prim.Native.Nat.{ℕ, ◌≤◌}
 use native.Mathlib.Omega.{arith}
 use borrow.Author.Rules.{rules}
 use lib.ListN.{length, get_or}
 use Rattle.running.proofs.Fitting.{product}
 use Rattle.cycle.proofs.Bounds.{weight_within, total_within}
-use Rattle.cycle.proofs.RowBits.{Rowed, rowed_start, bits_below, power_within, rowed_one, rowed_none, rowed_end, rowed_fits}
+use Rattle.cycle.proofs.RowBits.{rowed_start, bits_below, power_within, rowed_one, rowed_none, rowed_end, rowed_fits}
 use Rattle.cycle.proofs.cycle.row.Goals as goal
 use Rattle.cycle.proofs.cycle.row.Goals.{then-n-weights, else-n-weights}
 
@@ -60,10 +59,10 @@ loop-i-preserved c =
     let l = c.loop-i in
     let inside = c.loop-i-test.true in
     elim c.if-n-weights.branch [
-      then-n-weights w ↦ rw w.bits-is
-        (rowed_one a.weights a.sum c.requires.weighed long a.n a.held c.requires.n_lt_sum.1 l.i l.bits l.power l.invariant inside w.if-n-weights.true)
+      | then-n-weights w ↦ rw w.bits-is
+          (rowed_one a.weights a.sum c.requires.weighed long a.n a.held c.requires.n_lt_sum.1 l.i l.bits l.power l.invariant inside w.if-n-weights.true)
       | else-n-weights w ↦ rw w.bits-is
-        (rowed_none a.weights a.sum c.requires.weighed long a.n a.held c.requires.n_lt_sum.1 l.i l.bits l.power l.invariant inside w.if-n-weights.false)
+          (rowed_none a.weights a.sum c.requires.weighed long a.n a.held c.requires.n_lt_sum.1 l.i l.bits l.power l.invariant inside w.if-n-weights.false)
     ]
 
 pub overflow_cast-result : goal.overflow_cast-result
