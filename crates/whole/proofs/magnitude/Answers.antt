@@ -1,8 +1,6 @@
 -- Below 0, one step toward 0 makes the change of sign fit, and the step is added again; from 0 on the number is its own
 -- magnitude. Assumes nothing.
-use mathlib.Core.Path.{◌≡◌, sym, ◌∙◌}
-use mathlib.Core.Bool.{true, false}
-use Rattle.whole.specs.Whole.{negative}
+use mathlib.Core.Path.{sym, ◌∙◌}
 use Rattle.whole.proofs.Signs.{Below, is_below, test_below, step_fits, change_fits, cast_fits, sum_fits, sum_is, not_below_lem, nat_abs_is}
 use Rattle.whole.proofs.magnitude.Goals as goal
 

@@ -1,11 +1,9 @@
 -- Below 0 the magnitude less one fits, its opposite less one is the number; a magnitude past the type's reach gives 0.
 -- Assumes nothing.
-use mathlib.Core.Path.{◌≡◌, refl, sym, ◌∙◌, ap}
-use mathlib.Core.Bool.{Bool, true, false}
-use Prim.Native.Nat.{ℕ, ◌<◌, ◌≤◌, ◌^◌}
+use mathlib.Core.Path.{◌≡◌, sym, ◌∙◌}
+use mathlib.Core.Bool.{true, false}
+use Prim.Native.Nat.{◌<◌, ◌≤◌, ◌^◌}
 use native.Mathlib.Omega.{arith}
-use borrow.Author.Rules.{rules}
-use Rattle.whole.specs.Whole.{held_signed}
 use Rattle.whole.proofs.Signs.{held_pos, flip_fits, lower_fits, lower_is, too_far, within}
 use Rattle.whole.proofs.signed.Goals as goal
 

@@ -1,6 +1,5 @@
 -- Each arm of the test is its arm of the definition. Assumes nothing.
 use mathlib.Core.Path.{◌∙◌}
-use borrow.Author.Rules.{rules}
 use borrow.Author.Tests.{le-leb, lt-leb}
 use mir.Syntax.{w64}
 use mir.ValLaws.{to_z-of_z}

@@ -2,7 +2,6 @@
 use mathlib.Core.Path.{◌∙◌, ap}
 use mathlib.Core.Bool.{not}
 use native.Mathlib.Omega.{arith}
-use borrow.Author.Rules.{rules}
 use mir.Syntax.{w64}
 use mir.ValLaws.{to_z-of_z}
 use Rattle.whole.specs.Whole.{negative, magnitude_of}

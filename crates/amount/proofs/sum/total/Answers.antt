@@ -1,7 +1,6 @@
 -- Both coefficients are raised to the greater scale and added there; neither is farther from 0 than FAR, so the sum fits. Assumes nothing.
 use mathlib.Core.Path.{◌≡◌, ◌∙◌, ap₂}
 use Prim.Native.Nat.{◌-◌, ◌^◌, max}
-use borrow.Author.Rules.{rules}
 use lib.IntN.{ℤ, pos, ◌+ℤ◌, ◌*ℤ◌}
 use mir.Syntax.{w64}
 use mir.Val.{to_z, of_z}

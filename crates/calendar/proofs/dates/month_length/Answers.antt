@@ -1,5 +1,4 @@
 -- February, the four months of 30 days, and those of 31. Assumes nothing.
-use borrow.Author.Rules.{rules}
 use Rattle.calendar.proofs.Months.{long_month, short_month}
 use Rattle.calendar.proofs.dates.month_length.Goals as goal
 

@@ -1,6 +1,5 @@
 -- The code's test is the rule's. Assumes nothing.
 use native.Mathlib.Omega.{arith}
-use borrow.Author.Rules.{rules}
 use borrow.Author.Tests.{eq-eqb, ne_eqb}
 use Rattle.calendar.proofs.days.american_day.Goals as goal
 

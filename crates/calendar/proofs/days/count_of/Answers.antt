@@ -2,7 +2,6 @@
 use mathlib.Core.Path.{sym, ◌∙◌, ap, ap₂}
 use Prim.Native.Nat.{ℕ, ◌-◌}
 use native.Mathlib.Omega.{arith}
-use borrow.Author.Rules.{rules}
 use Rattle.calendar.specs.DayCount.{actual, clipped, american, difference}
 use Rattle.calendar.proofs.Bases.{counts_actual}
 use Rattle.calendar.proofs.Thirty.{american_reads}

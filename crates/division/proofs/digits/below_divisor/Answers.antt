@@ -1,7 +1,6 @@
 -- Either way meets the one promise. Assumes nothing.
 use mathlib.Core.Path.{sym, ◌∙◌}
 use native.Mathlib.Omega.{arith}
-use borrow.Author.Rules.{rules}
 use Rattle.division.proofs.Split.{narrow}
 use Rattle.division.proofs.digits.below_divisor.Goals as goal
 

@@ -1,7 +1,6 @@
 -- The two digits of b, and the quotient is at most b. Assumes nothing.
 use Prim.Native.Nat.{◌+◌, ◌*◌, ◌≤◌}
 use native.Mathlib.Omega.{arith}
-use borrow.Author.Rules.{rules}
 use Rattle.division.specs.Digits.{base, Parts}
 use Rattle.division.proofs.Split.{two_digits, quotient_most}
 use Rattle.division.proofs.digits.by_digits.Goals as goal

@@ -1,8 +1,7 @@
 -- The product fits, and its rest is what the quotient's multiple of d leaves. Assumes nothing.
-use Prim.Native.Nat.{◌*◌, ◌/◌}
+use Prim.Native.Nat.{◌*◌}
 use native.Mathlib.Nat.{div-add-mod', mod-lt, div-mul-le_self}
 use native.Mathlib.Omega.{arith}
-use borrow.Author.Rules.{rules}
 use Rattle.division.proofs.Split.{word_fits}
 use Rattle.division.proofs.digits.by_word.Goals as goal
 

@@ -1,8 +1,7 @@
 -- The law of a digit, in the program's numbers: each of them is a part of `top`, below 2 d, or of `left`, below 2^62. Assumes nothing.
-use Prim.Native.Nat.{◌+◌, ◌*◌, ◌/◌, ◌%◌, ◌<◌, ◌≤◌}
+use Prim.Native.Nat.{◌+◌, ◌*◌, ◌%◌, ◌<◌, ◌≤◌}
 use native.Mathlib.Nat.{div-add-mod', mod-lt, mul-le-mul, div-le_self}
 use native.Mathlib.Omega.{arith}
-use borrow.Author.Rules.{rules}
 use Rattle.division.specs.Digits.{base}
 use Rattle.division.proofs.Digit.{low, top, taken, left, top_small, taken_small, left_small, digit as the-digit}
 use Rattle.division.proofs.digits.digit.Goals as goal

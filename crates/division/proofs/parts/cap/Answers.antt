@@ -1,7 +1,6 @@
 -- One test. Assumes nothing.
 use mathlib.Core.Path.{refl}
 use native.Mathlib.Omega.{arith}
-use borrow.Author.Rules.{rules}
 use Rattle.division.proofs.parts.cap.Goals as goal
 
 pub returns-then-quotient-gt-MOST : goal.returns-then-quotient-gt-MOST

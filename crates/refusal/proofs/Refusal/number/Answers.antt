@@ -1,8 +1,6 @@
 -- The case that a match takes is the refusal's own. Assumes nothing.
-use mathlib.Core.Path.{◌≡◌, refl, sym, ◌∙◌, ap, ap₂}
-use native.Mathlib.Omega.{arith}
+use mathlib.Core.Path.{sym, ap}
 use Rattle.refusal.specs.Number.{number_of}
-use borrow.Author.Rules.{rules}
 use Rattle.refusal.proofs.Refusal.number.Goals as goal
 
 pub returns-in-Mode : goal.returns-in-Mode

@@ -2,15 +2,13 @@
 -- Assumes nothing.
 use mathlib.Core.Path.{◌≡◌, refl, sym, ◌∙◌, ap}
 use mathlib.Core.Bool.{Bool, true, false}
-use mathlib.Core.List.{List, [], ◌∷◌}
+use mathlib.Core.List.{[], ◌∷◌}
 use Prim.Native.Nat.{ℕ, ◌+◌, ◌-◌, ◌<◌, ◌≤◌}
 use native.Mathlib.Omega.{arith}
-use borrow.Author.Rules.{rules}
 use borrow.Author.Tests.{lt-ltb, le-ltb, eq-eqb, ne_eqb, ltb-true, ltb-false, leb-true, leb-false}
 use lib.Dec.{ltb, leb}
 use lib.ListN.{get_or, get_or-eq_default}
-use mir.Syntax.{w8}
-use mir.Val.{Fits, bool_byte}
+use mir.Val.{bool_byte}
 use Rattle.whole.proofs.Keys.{past_keys}
 use Rattle.rounding.specs.declared.Rest.{Rest}
 use Rattle.rounding.specs.declared.Rest.TheVariants.{Exact, Below, Half, Above}

@@ -1,8 +1,7 @@
 -- The question's bit of the rule's number is the definition's answer. Assumes nothing.
-use mathlib.Core.Path.{◌≡◌, ◌∙◌, ap₂}
-use Prim.Native.Nat.{ℕ, ◌+◌, ◌*◌, ◌/◌, ◌%◌, ◌^◌, ◌≤◌}
+use mathlib.Core.Path.{◌∙◌, ap₂}
+use Prim.Native.Nat.{ℕ, ◌/◌, ◌%◌, ◌^◌, ◌≤◌}
 use native.Mathlib.Omega.{arith}
-use borrow.Author.Rules.{rules}
 use lib.Dec.{eqb}
 use Rattle.rounding.proofs.Answers.{question, one_at_most, three_at_most, answered}
 use Rattle.rounding.proofs.modes.rises.Goals as goal
