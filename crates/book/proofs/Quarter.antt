@@ -103,8 +103,8 @@ module _ (c : Currency) (ws : List ℕ) (opened : Book) (accepted : open_said c 
         each = each;
         added = sum_same (together b paid taken) (λ i. totals_on i (card_of b ∷ closed)) partners (λ i l. each i) ∙ all_net_lem (card_of b ∷ closed) all;
         number = number;
-        notAbove = λ i. rw (each i, number) (near i (card_of b) closed all).0;
-        notBelow = λ i. rw (each i, number) (near i (card_of b) closed all).1;
+        not_above = λ i. rw (each i, number) (near i (card_of b) closed all).0;
+        not_below = λ i. rw (each i, number) (near i (card_of b) closed all).1;
       }
 
   -- "Demand 3 then speaks of each card by itself"

@@ -40,11 +40,9 @@ returns-in-Refused c =
     let b = c.args.self in
     let past = c.past_in-past.result in
     c.check_front.ensures ∙ ap (λ (n : ℕ). check_of (front_rows n past.over past.full b.currency)) c.net_of.ensures in
-    let s = c in
-    let p = s in
-    let a = p.args in
-    sym (front_refused (front a.self p.past_in-past.result) (rest a.self p.past_in-past.result a.broken a.short) c.in-Refused.refusal (sym first ∙ c.in-Refused.is))
-    ∙ told-rows a.self p.past_in-past.result a.broken a.short p.past_in-past.ensures
+    let a = c.args in
+    sym (front_refused (front a.self c.past_in-past.result) (rest a.self c.past_in-past.result a.broken a.short) c.in-Refused.refusal (sym first ∙ c.in-Refused.is))
+    ∙ told-rows a.self c.past_in-past.result a.broken a.short c.past_in-past.ensures
 
 pub returns-in-Passed : goal.returns-in-Passed
 returns-in-Passed c =
@@ -52,9 +50,7 @@ returns-in-Passed c =
     let b = c.args.self in
     let past = c.past_in-past.result in
     c.check_front.ensures ∙ ap (λ (n : ℕ). check_of (front_rows n past.over past.full b.currency)) c.net_of.ensures in
-    let s = c in
-    let p = s in
-    let a = p.args in
+    let a = c.args in
     c.check_rest.ensures
-    ∙ sym (front_passed (front a.self p.past_in-past.result) (rest a.self p.past_in-past.result a.broken a.short) (sym first ∙ c.in-Passed.is))
-    ∙ told-rows a.self p.past_in-past.result a.broken a.short p.past_in-past.ensures
+    ∙ sym (front_passed (front a.self c.past_in-past.result) (rest a.self c.past_in-past.result a.broken a.short) (sym first ∙ c.in-Passed.is))
+    ∙ told-rows a.self c.past_in-past.result a.broken a.short c.past_in-past.ensures

@@ -32,16 +32,14 @@ loop-i-preserved c =
     let held : c.magnitude.result ≡ magnitude_of (get_or c.args.settled c.loop-i.i (pos 0)) =
     let z = get_or c.args.settled c.loop-i.i (pos 0) in
     c.magnitude.ensures ∙ ap magnitude_of (read_back z c.magnitude-arg-1.given) in
-    let m = c in
-    let l = m in
-    let a = l.args in
-    let i = l.loop-i.i in
-    let sum = m.magnitude.result + get_or a.totals i 0 in
-    let small : sum < 2 ^ 63 = omega (arith, held, l.requires i) in
+    let a = c.args in
+    let i = c.loop-i.i in
+    let sum = c.magnitude.result + get_or a.totals i 0 in
+    let small : sum < 2 ^ 63 = omega (arith, held, c.requires i) in
     let stored : to_z w64 (of_z w64 c.signed.result) ≡ added a.settled a.totals i =
     read_back c.signed.result c.signed.type_inv ∙ c.signed.ensures ∙ held_within false sum small ∙ ap (λ (x : ℕ). pos (x + get_or a.totals i 0)) held in
     let at : i ≡ 0 + i = omega arith in
-    (omega arith, fill_more 0 (added a.settled a.totals) a.settled l.loop-i.grown i i _ l.loop-i.invariant.1 at stored)
+    (omega arith, fill_more 0 (added a.settled a.totals) a.settled c.loop-i.grown i i _ c.loop-i.invariant.1 at stored)
 
 pub returns : goal.returns
 unfolding added_by

@@ -48,11 +48,9 @@ returns-in-Refused c =
     c.check_given.ensures
     ∙ ap₂ (λ (m n : ℕ). check_of (given_rows a.amount.scale m a.amount.currency n a.past.over a.past.full a.book.currency))
     c.units_of-units.ensures c.net_of-net.ensures in
-    let s = c in
-    let t = s in
-    let a = t.args in
+    let a = c.args in
     sym (front_refused (given a.book a.past a.amount) (standing a.book a.past a.amount) c.in-Refused.refusal (sym front ∙ c.in-Refused.is))
-    ∙ told-rows a.book a.past a.amount t.requires
+    ∙ told-rows a.book a.past a.amount c.requires
 
 pub returns-in-Passed : goal.returns-in-Passed
 returns-in-Passed c =
@@ -63,13 +61,10 @@ returns-in-Passed c =
     c.check_given.ensures
     ∙ ap₂ (λ (m n : ℕ). check_of (given_rows a.amount.scale m a.amount.currency n a.past.over a.past.full a.book.currency))
     c.units_of-units.ensures c.net_of-net.ensures in
-    let told = c in
-    let s = told in
-    let t = s in
-    let a = t.args in
+    let a = c.args in
     c.check_standing.ensures
     ∙ ap₂ (λ (x y : Bool). check_of (contract_rows a.book.count a.book.weights a.book.card a.past.behind ++ sign_rows x y a.past.negative))
     (c.is_negative.ensures ∙ ap negative (to_z-of_z w64 a.amount.coefficient amount-fits))
     (c.is_negative-in-Passed.ensures ∙ ap negative (to_z-of_z w64 a.book.net net-fits))
-    ∙ sym (front_passed (given a.book a.past a.amount) (standing a.book a.past a.amount) (sym front ∙ told.in-Passed.is))
-    ∙ told-rows a.book a.past a.amount t.requires
+    ∙ sym (front_passed (given a.book a.past a.amount) (standing a.book a.past a.amount) (sym front ∙ c.in-Passed.is))
+    ∙ told-rows a.book a.past a.amount c.requires

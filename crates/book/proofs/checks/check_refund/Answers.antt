@@ -24,9 +24,9 @@ pub check_move-requires : goal.check_move-requires
 check_move-requires c = c.past_in.ensures
 
 pub returns-in-Refused : goal.returns-in-Refused
-returns-in-Refused c = let s = c in
-    let a = s.args in
-    sym (front_refused (move_rows a.book a.amount) (last a.book a.amount) c.in-Refused.refusal (sym s.check_move.ensures ∙ c.in-Refused.is))
+returns-in-Refused c =
+    let a = c.args in
+    sym (front_refused (move_rows a.book a.amount) (last a.book a.amount) c.in-Refused.refusal (sym c.check_move.ensures ∙ c.in-Refused.is))
 
 pub returns-then-net_of-units_of : goal.returns-then-net_of-units_of
 returns-then-net_of-units_of c =

@@ -33,9 +33,8 @@ returns-then-magnitude-gt-L c =
     let here : c.magnitude.result ≡ magnitude_of (get_or c.args.settled (c.loop-i.i - 1) (pos 0)) =
     let z = get_or c.args.settled (c.loop-i.i - 1) (pos 0) in
     c.magnitude.ensures ∙ ap magnitude_of (read_back z c.magnitude-arg-1.given) in
-    let s = c in
-    let zs = s.args.settled in
-    let k = s.loop-i.i - 1 in
+    let zs = c.args.settled in
+    let k = c.loop-i.i - 1 in
     sym (some_at far_off refl zs k (lt-ltb largest (magnitude_of (get_or zs k (pos 0))) (omega (arith, c.if-magnitude-gt-L.true, here))))
 
 pub loop-i-smaller : goal.loop-i-smaller
@@ -47,12 +46,11 @@ loop-i-preserved c =
     let here : c.magnitude.result ≡ magnitude_of (get_or c.args.settled (c.loop-i.i - 1) (pos 0)) =
     let z = get_or c.args.settled (c.loop-i.i - 1) (pos 0) in
     c.magnitude.ensures ∙ ap magnitude_of (read_back z c.magnitude-arg-1.given) in
-    let s = c in
-    let zs = s.args.settled in
-    let i = s.loop-i.i in
+    let zs = c.args.settled in
+    let i = c.loop-i.i in
     let h = long in
     let e : i ≡ suc (i - 1) = omega arith in
-    let later : any_over (drop (suc (i - 1)) zs) ≡ false = subst (λ (k : ℕ). any_over (drop k zs) ≡ false) e s.loop-i.invariant.1 in
+    let later : any_over (drop (suc (i - 1)) zs) ≡ false = subst (λ (k : ℕ). any_over (drop k zs) ≡ false) e c.loop-i.invariant.1 in
     (omega arith, none_earlier far_off zs (i - 1) (omega arith) (le-ltb largest (magnitude_of (get_or zs (i - 1) (pos 0))) (omega (arith, c.if-magnitude-gt-L.false, here))) later)
 
 pub returns : goal.returns

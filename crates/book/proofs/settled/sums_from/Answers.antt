@@ -43,10 +43,9 @@ overflow_add-above c =
     let upper : c.up-above.result ≡ up_of (get_or c.args.settled (c.loop-i.i - 1) (pos 0)) =
     let z = get_or c.args.settled (c.loop-i.i - 1) (pos 0) in
     c.up-above.ensures ∙ ap up_of (read_back z c.up-arg-1.given) in
-    let l = c in
-    let zs = l.args.settled in
+    let zs = c.args.settled in
     let h = long in
-    omega (arith, (grows zs l.loop-i.i h (omega arith) l.loop-i.invariant.0).0, (within zs (l.loop-i.i - 1) h l.requires).0, upper, l.loop-i.invariant.1)
+    omega (arith, (grows zs c.loop-i.i h (omega arith) c.loop-i.invariant.0).0, (within zs (c.loop-i.i - 1) h c.requires).0, upper, c.loop-i.invariant.1)
 
 pub offset_bounds-settled-i-in-loop-i : goal.offset_bounds-settled-i-in-loop-i
 offset_bounds-settled-i-in-loop-i c = omega arith
@@ -60,10 +59,9 @@ overflow_add-below c =
     let lower : c.down-below.result ≡ down_of (get_or c.args.settled (c.loop-i.i - 1) (pos 0)) =
     let z = get_or c.args.settled (c.loop-i.i - 1) (pos 0) in
     c.down-below.ensures ∙ ap down_of (read_back z c.down-arg-1.given) in
-    let l = c in
-    let zs = l.args.settled in
+    let zs = c.args.settled in
     let h = long in
-    omega (arith, (grows zs l.loop-i.i h (omega arith) l.loop-i.invariant.0).1, (within zs (l.loop-i.i - 1) h l.requires).1, lower, l.loop-i.invariant.2)
+    omega (arith, (grows zs c.loop-i.i h (omega arith) c.loop-i.invariant.0).1, (within zs (c.loop-i.i - 1) h c.requires).1, lower, c.loop-i.invariant.2)
 
 pub loop-i-smaller : goal.loop-i-smaller
 loop-i-smaller c = omega arith
@@ -77,27 +75,6 @@ loop-i-preserved c =
     let lower : c.down-below.result ≡ down_of (get_or c.args.settled (c.loop-i.i - 1) (pos 0)) =
     let z = get_or c.args.settled (c.loop-i.i - 1) (pos 0) in
     c.down-below.ensures ∙ ap down_of (read_back z c.down-arg-1.given) in
-    let l = c in
-    let zs = l.args.settled in
-    let g = grows zs l.loop-i.i long (omega arith) l.loop-i.invariant.0 in
-    (omega arith, omega (arith, g.0, upper, l.loop-i.invariant.1), omega (arith, g.1, lower, l.loop-i.invariant.2), λ b. omega arith)
-
-pub returns : goal.returns
-returns c =
-    let long : length c.args.settled ≡ 16 = search rules in
-    go (dec_lt c.loop-i.i c.args.from)
-  where
-    go : Dec (c.loop-i.i < c.args.from)
-        → (c.loop-i.above ≡ above (drop c.args.from c.args.settled))
-        × (c.loop-i.below ≡ below (drop c.args.from c.args.settled))
-    go (yes b) =
-        let h = long in
-        let e = c.loop-i.invariant.3 b in
-        let here = none_behind_end c.args.settled c.loop-i.i (omega arith) in
-        let there = none_behind_end c.args.settled c.args.from (omega arith) in
-        (omega (arith, here.0, there.0, c.loop-i.invariant.1), omega (arith, here.1, there.1, c.loop-i.invariant.2))
-    go (no b) =
-        let e : c.loop-i.i ≡ c.args.from = omega arith in (
-          c.loop-i.invariant.1 ∙ ap (λ (k : ℕ). above (drop k c.args.settled)) e,
-          c.loop-i.invariant.2 ∙ ap (λ (k : ℕ). below (drop k c.args.settled)) e,
-        )
+    let zs = c.args.settled in
+    let g = grows zs c.loop-i.i long (omega arith) c.loop-i.invariant.0 in
+    (omega arith, omega (arith, g.0, upper, c.loop-i.invariant.1), omega (arith, g.1, lower, c.loop-i.invariant.2), λ b. omega arith)

@@ -26,10 +26,9 @@ totals_by-held-requires c =
     let z = c.args.book.net in
     let fits : SFits w64 z = search rules in c.magnitude-net.ensures ∙ ap magnitude_of (to_z-of_z w64 z fits) in
     let sum : c.settled_sum-settled.result ≡ settled_sum c.args.book =
-    let s = c in
-    sound_settled s.args.book s.requires.sound c.settled_sum-settled.result c.settled_sum-settled.ensures in
-    let limit : c.settled_sum-settled.result + c.magnitude-net.result ≤ largest = let s = c in rw (net, sum) (sound_net s.args.book s.requires.sound).1 in
-    let s = c in record { weighed = s.requires.weighed; cycled = s.requires.cycled; n_le_largest = omega (arith, limit) }
+    sound_settled c.args.book c.requires.sound c.settled_sum-settled.result c.settled_sum-settled.ensures in
+    let limit : c.settled_sum-settled.result + c.magnitude-net.result ≤ largest = rw (net, sum) (sound_net c.args.book c.requires.sound).1 in
+    record { weighed = c.requires.weighed; cycled = c.requires.cycled; n_le_largest = omega (arith, limit) }
 
 pub loop-j-init : goal.loop-j-init
 loop-j-init c =
@@ -37,9 +36,8 @@ loop-j-init c =
     let z = c.args.book.net in
     let fits : SFits w64 z = search rules in c.magnitude-net.ensures ∙ ap magnitude_of (to_z-of_z w64 z fits) in
     let sum : c.settled_sum-settled.result ≡ settled_sum c.args.book =
-    let s = c in
-    sound_settled s.args.book s.requires.sound c.settled_sum-settled.result c.settled_sum-settled.ensures in
-    let limit : c.settled_sum-settled.result + c.magnitude-net.result ≤ largest = let s = c in rw (net, sum) (sound_net s.args.book s.requires.sound).1 in
+    sound_settled c.args.book c.requires.sound c.settled_sum-settled.result c.settled_sum-settled.ensures in
+    let limit : c.settled_sum-settled.result + c.magnitude-net.result ≤ largest = rw (net, sum) (sound_net c.args.book c.requires.sound).1 in
     (search rules, limit, c.totals_by-held.ensures, serving_start _ _ _ _ _ _ _)
 
 pub step-net-requires : goal.step-net-requires
@@ -48,21 +46,17 @@ step-net-requires c =
     let z = c.args.book.net in
     let fits : SFits w64 z = search rules in c.magnitude-net.ensures ∙ ap magnitude_of (to_z-of_z w64 z fits) in
     let sum : c.settled_sum-settled.result ≡ settled_sum c.args.book =
-    let s = c in
-    sound_settled s.args.book s.requires.sound c.settled_sum-settled.result c.settled_sum-settled.ensures in
-    let served : let s = c in ServedTo s.args.book s.args.refunds.now s.args.coefficients.now s.args.payouts.now s.args.numbers.now c.loop-j.j (next_book s.args.book (gives c.loop-j.net)) c.loop-j.payouts c.loop-j.numbers =
-    let s = c in
-    c.loop-j.invariant.3 s.args.book s.requires.sound refl (sym sum) (sym net) in
-    let lengths : let s = c in (length c.loop-j.payouts ≡ length s.args.payouts.now) × (length c.loop-j.numbers ≡ length s.args.numbers.now) =
+    sound_settled c.args.book c.requires.sound c.settled_sum-settled.result c.settled_sum-settled.ensures in
+    let served : ServedTo c.args.book c.args.refunds.now c.args.coefficients.now c.args.payouts.now c.args.numbers.now c.loop-j.j (next_book c.args.book (gives c.loop-j.net)) c.loop-j.payouts c.loop-j.numbers =
+    c.loop-j.invariant.3 c.args.book c.requires.sound refl (sym sum) (sym net) in
+    let lengths : (length c.loop-j.payouts ≡ length c.args.payouts.now) × (length c.loop-j.numbers ≡ length c.args.numbers.now) =
     let a = c.args in
     served_lengths a.book a.refunds.now a.coefficients.now a.payouts.now a.numbers.now served in
-    let at = c in
     let long = lengths in
-    let s = at in
     let inside = c.loop-j-test.true in record {
-      weighed = s.requires.weighed;
-      cycled = s.requires.cycled;
-      net_bound = (at.loop-j.invariant.1, at.loop-j.invariant.2);
+      weighed = c.requires.weighed;
+      cycled = c.requires.cycled;
+      net_bound = (c.loop-j.invariant.1, c.loop-j.invariant.2);
       partners_in_bounds = (omega arith, omega arith);
     }
 
@@ -73,14 +67,12 @@ overflow_add-j c =
 
 pub loop-j-preserved : goal.loop-j-preserved
 loop-j-preserved c = let t = c.step-net in
-    let test = c in
-    let at = test in
-    let a = at.args in
+    let a = c.args in
     let k = c.step-arg-1.given in (
-      omega (arith, test.loop-j-test.true),
-      step_within at.loop-j.invariant.1 t.ensures,
+      omega (arith, c.loop-j-test.true),
+      step_within c.loop-j.invariant.1 t.ensures,
       t.ensures.held,
-      serving_step a.refunds.now a.coefficients.now a.payouts.now a.numbers.now a.book.weights _ _ _ (read_back _ k) at.loop-j.invariant.1 at.loop-j.invariant.3 t.ensures,
+      serving_step a.refunds.now a.coefficients.now a.payouts.now a.numbers.now a.book.weights _ _ _ (read_back _ k) c.loop-j.invariant.1 c.loop-j.invariant.3 t.ensures,
     )
 
 pub shape_of-payouts : goal.shape_of-payouts
@@ -89,12 +81,10 @@ shape_of-payouts c =
     let z = c.args.book.net in
     let fits : SFits w64 z = search rules in c.magnitude-net.ensures ∙ ap magnitude_of (to_z-of_z w64 z fits) in
     let sum : c.settled_sum-settled.result ≡ settled_sum c.args.book =
-    let s = c in
-    sound_settled s.args.book s.requires.sound c.settled_sum-settled.result c.settled_sum-settled.ensures in
-    let served : let s = c in ServedTo s.args.book s.args.refunds.now s.args.coefficients.now s.args.payouts.now s.args.numbers.now c.loop-j.j (next_book s.args.book (gives c.loop-j.net)) c.loop-j.payouts c.loop-j.numbers =
-    let s = c in
-    c.loop-j.invariant.3 s.args.book s.requires.sound refl (sym sum) (sym net) in
-    let lengths : let s = c in (length c.loop-j.payouts ≡ length s.args.payouts.now) × (length c.loop-j.numbers ≡ length s.args.numbers.now) =
+    sound_settled c.args.book c.requires.sound c.settled_sum-settled.result c.settled_sum-settled.ensures in
+    let served : ServedTo c.args.book c.args.refunds.now c.args.coefficients.now c.args.payouts.now c.args.numbers.now c.loop-j.j (next_book c.args.book (gives c.loop-j.net)) c.loop-j.payouts c.loop-j.numbers =
+    c.loop-j.invariant.3 c.args.book c.requires.sound refl (sym sum) (sym net) in
+    let lengths : (length c.loop-j.payouts ≡ length c.args.payouts.now) × (length c.loop-j.numbers ≡ length c.args.numbers.now) =
     let a = c.args in
     served_lengths a.book a.refunds.now a.coefficients.now a.payouts.now a.numbers.now served in
     lengths.0
@@ -105,12 +95,10 @@ shape_of-numbers c =
     let z = c.args.book.net in
     let fits : SFits w64 z = search rules in c.magnitude-net.ensures ∙ ap magnitude_of (to_z-of_z w64 z fits) in
     let sum : c.settled_sum-settled.result ≡ settled_sum c.args.book =
-    let s = c in
-    sound_settled s.args.book s.requires.sound c.settled_sum-settled.result c.settled_sum-settled.ensures in
-    let served : let s = c in ServedTo s.args.book s.args.refunds.now s.args.coefficients.now s.args.payouts.now s.args.numbers.now c.loop-j.j (next_book s.args.book (gives c.loop-j.net)) c.loop-j.payouts c.loop-j.numbers =
-    let s = c in
-    c.loop-j.invariant.3 s.args.book s.requires.sound refl (sym sum) (sym net) in
-    let lengths : let s = c in (length c.loop-j.payouts ≡ length s.args.payouts.now) × (length c.loop-j.numbers ≡ length s.args.numbers.now) =
+    sound_settled c.args.book c.requires.sound c.settled_sum-settled.result c.settled_sum-settled.ensures in
+    let served : ServedTo c.args.book c.args.refunds.now c.args.coefficients.now c.args.payouts.now c.args.numbers.now c.loop-j.j (next_book c.args.book (gives c.loop-j.net)) c.loop-j.payouts c.loop-j.numbers =
+    c.loop-j.invariant.3 c.args.book c.requires.sound refl (sym sum) (sym net) in
+    let lengths : (length c.loop-j.payouts ≡ length c.args.payouts.now) × (length c.loop-j.numbers ≡ length c.args.numbers.now) =
     let a = c.args in
     served_lengths a.book a.refunds.now a.coefficients.now a.payouts.now a.numbers.now served in
     lengths.1
@@ -121,11 +109,9 @@ returns c =
     let z = c.args.book.net in
     let fits : SFits w64 z = search rules in c.magnitude-net.ensures ∙ ap magnitude_of (to_z-of_z w64 z fits) in
     let sum : c.settled_sum-settled.result ≡ settled_sum c.args.book =
-    let s = c in
-    sound_settled s.args.book s.requires.sound c.settled_sum-settled.result c.settled_sum-settled.ensures in
-    let served : let s = c in ServedTo s.args.book s.args.refunds.now s.args.coefficients.now s.args.payouts.now s.args.numbers.now c.loop-j.j (next_book s.args.book (gives c.loop-j.net)) c.loop-j.payouts c.loop-j.numbers =
-    let s = c in
-    c.loop-j.invariant.3 s.args.book s.requires.sound refl (sym sum) (sym net) in
+    sound_settled c.args.book c.requires.sound c.settled_sum-settled.result c.settled_sum-settled.ensures in
+    let served : ServedTo c.args.book c.args.refunds.now c.args.coefficients.now c.args.payouts.now c.args.numbers.now c.loop-j.j (next_book c.args.book (gives c.loop-j.net)) c.loop-j.payouts c.loop-j.numbers =
+    c.loop-j.invariant.3 c.args.book c.requires.sound refl (sym sum) (sym net) in
     let a = c.args in
     let e : c.loop-j.j ≡ length a.refunds.now = omega arith in
     (omega (arith, c.loop-j.invariant.1), rw e at served)

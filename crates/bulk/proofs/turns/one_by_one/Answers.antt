@@ -17,17 +17,15 @@ turn-last-requires c =
     let lengths : (length c.loop-j.payouts ≡ length c.args.payouts.now) × (length c.loop-j.numbers ≡ length c.args.numbers.now) =
     let a = c.args in
     served_lengths a.book a.refunds.now a.coefficients.now a.payouts.now a.numbers.now c.loop-j.invariant.1 in
-    let at = c in
     let long = lengths in record { partners_in_bounds = omega arith; j_in_bounds = omega arith }
 
 pub loop-j-preserved : goal.loop-j-preserved
 loop-j-preserved c = let t = c.turn-last in
-    let at = c in
-    let a = at.args in
+    let a = c.args in
     let inside = c.loop-j-test.true in
     let coefficient = c.turn-arg-1.given in (
       omega arith,
-      served_step a.book a.refunds.now a.coefficients.now a.payouts.now a.numbers.now at.loop-j.invariant.1 _ (read_back _ coefficient) t.ensures,
+      served_step a.book a.refunds.now a.coefficients.now a.payouts.now a.numbers.now c.loop-j.invariant.1 _ (read_back _ coefficient) t.ensures,
     )
 
 pub shape_of-payouts : goal.shape_of-payouts

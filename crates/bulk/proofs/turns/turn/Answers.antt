@@ -6,9 +6,8 @@ use Rattle.bulk.proofs.Call.{turned}
 use Rattle.bulk.proofs.turns.turn.Goals as goal
 
 pub returns : goal.returns
-returns c = let k = c in
-    let s = k in
-    let a = s.args in
-    turned a.book a.refund a.coefficient _ a.j a.payouts.now a.numbers.now _ _ k.call-moved.result
-    (to_z-of_z w64 a.coefficient s.ranges.coefficient) k.call-moved.ensures c.write.ensures
+returns c =
+    let a = c.args in
+    turned a.book a.refund a.coefficient _ a.j a.payouts.now a.numbers.now _ _ c.call-moved.result
+    (to_z-of_z w64 a.coefficient c.ranges.coefficient) c.call-moved.ensures c.write.ensures
     c.number.ensures
