@@ -24,14 +24,14 @@ pub overflow_add-magnitude : goal.overflow_add-magnitude
 overflow_add-magnitude c =
     let held : c.magnitude.result ≡ magnitude_of (get_or c.args.settled c.loop-i.i (pos 0)) =
     let z = get_or c.args.settled c.loop-i.i (pos 0) in
-    c.magnitude.ensures ∙ ap magnitude_of (read_back z c.magnitude-arg-1.given) in
+    c.magnitude.ensures ∙ ap magnitude_of (read_back z (search rules)) in
     omega (arith, held, c.requires c.loop-i.i)
 
 pub loop-i-preserved : goal.loop-i-preserved
 loop-i-preserved c =
     let held : c.magnitude.result ≡ magnitude_of (get_or c.args.settled c.loop-i.i (pos 0)) =
     let z = get_or c.args.settled c.loop-i.i (pos 0) in
-    c.magnitude.ensures ∙ ap magnitude_of (read_back z c.magnitude-arg-1.given) in
+    c.magnitude.ensures ∙ ap magnitude_of (read_back z (search rules)) in
     let a = c.args in
     let i = c.loop-i.i in
     let sum = c.magnitude.result + get_or a.totals i 0 in

@@ -32,7 +32,7 @@ pub returns-then-magnitude-gt-L : goal.returns-then-magnitude-gt-L
 returns-then-magnitude-gt-L c =
     let here : c.magnitude.result ≡ magnitude_of (get_or c.args.settled (c.loop-i.i - 1) (pos 0)) =
     let z = get_or c.args.settled (c.loop-i.i - 1) (pos 0) in
-    c.magnitude.ensures ∙ ap magnitude_of (read_back z c.magnitude-arg-1.given) in
+    c.magnitude.ensures ∙ ap magnitude_of (read_back z (search rules)) in
     let zs = c.args.settled in
     let k = c.loop-i.i - 1 in
     sym (some_at far_off refl zs k (lt-ltb largest (magnitude_of (get_or zs k (pos 0))) (omega (arith, c.if-magnitude-gt-L.true, here))))
@@ -45,7 +45,7 @@ loop-i-preserved c =
     let long : length c.args.settled ≡ 16 = search rules in
     let here : c.magnitude.result ≡ magnitude_of (get_or c.args.settled (c.loop-i.i - 1) (pos 0)) =
     let z = get_or c.args.settled (c.loop-i.i - 1) (pos 0) in
-    c.magnitude.ensures ∙ ap magnitude_of (read_back z c.magnitude-arg-1.given) in
+    c.magnitude.ensures ∙ ap magnitude_of (read_back z (search rules)) in
     let zs = c.args.settled in
     let i = c.loop-i.i in
     let h = long in

@@ -42,7 +42,7 @@ overflow_add-above c =
     let long : length c.args.settled ≡ 16 = search rules in
     let upper : c.up-above.result ≡ up_of (get_or c.args.settled (c.loop-i.i - 1) (pos 0)) =
     let z = get_or c.args.settled (c.loop-i.i - 1) (pos 0) in
-    c.up-above.ensures ∙ ap up_of (read_back z c.up-arg-1.given) in
+    c.up-above.ensures ∙ ap up_of (read_back z (search rules)) in
     let zs = c.args.settled in
     let h = long in
     omega (arith, (grows zs c.loop-i.i h (omega arith) c.loop-i.invariant.0).0, (within zs (c.loop-i.i - 1) h c.requires).0, upper, c.loop-i.invariant.1)
@@ -58,7 +58,7 @@ overflow_add-below c =
     let long : length c.args.settled ≡ 16 = search rules in
     let lower : c.down-below.result ≡ down_of (get_or c.args.settled (c.loop-i.i - 1) (pos 0)) =
     let z = get_or c.args.settled (c.loop-i.i - 1) (pos 0) in
-    c.down-below.ensures ∙ ap down_of (read_back z c.down-arg-1.given) in
+    c.down-below.ensures ∙ ap down_of (read_back z (search rules)) in
     let zs = c.args.settled in
     let h = long in
     omega (arith, (grows zs c.loop-i.i h (omega arith) c.loop-i.invariant.0).1, (within zs (c.loop-i.i - 1) h c.requires).1, lower, c.loop-i.invariant.2)
@@ -71,10 +71,10 @@ loop-i-preserved c =
     let long : length c.args.settled ≡ 16 = search rules in
     let upper : c.up-above.result ≡ up_of (get_or c.args.settled (c.loop-i.i - 1) (pos 0)) =
     let z = get_or c.args.settled (c.loop-i.i - 1) (pos 0) in
-    c.up-above.ensures ∙ ap up_of (read_back z c.up-arg-1.given) in
+    c.up-above.ensures ∙ ap up_of (read_back z (search rules)) in
     let lower : c.down-below.result ≡ down_of (get_or c.args.settled (c.loop-i.i - 1) (pos 0)) =
     let z = get_or c.args.settled (c.loop-i.i - 1) (pos 0) in
-    c.down-below.ensures ∙ ap down_of (read_back z c.down-arg-1.given) in
+    c.down-below.ensures ∙ ap down_of (read_back z (search rules)) in
     let zs = c.args.settled in
     let g = grows zs c.loop-i.i long (omega arith) c.loop-i.invariant.0 in
     (omega arith, omega (arith, g.0, upper, c.loop-i.invariant.1), omega (arith, g.1, lower, c.loop-i.invariant.2), λ b. omega arith)
