@@ -2,15 +2,13 @@
 use mathlib.Core.Path.{◌≡◌, sym, ap, ◌∙◌}
 use mathlib.Core.Bool.{Bool, false}
 use mathlib.Core.List.{List}
-use Prim.Native.Nat.{ℕ, ◌≤◌}
-use borrow.Author.Rules.{rules}
-use lib.ListN.{length}
+use Prim.Native.Nat.{ℕ}
 use Rattle.refusal.specs.declared.Checked.{Checked}
 use Rattle.refusal.specs.Rows.{check_of}
 use Rattle.book.specs.declared.Book.{Book}
-use Rattle.book.specs.Books.{partners, listed_rows}
+use Rattle.book.specs.Books.{listed_rows}
 use Rattle.book.specs.Cards.{card_with, new_card}
-use Rattle.book.specs.Checks.{breaks_by, Ready}
+use Rattle.book.specs.Checks.{breaks_by}
 use Rattle.book.proofs.CardAnswered.{card_ready, card_refused, card_passed}
 use Rattle.book.proofs.Book.card.Goals as goal
 

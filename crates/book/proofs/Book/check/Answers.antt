@@ -3,7 +3,6 @@ use mathlib.Core.Path.{◌≡◌, sym, ap, ◌∙◌}
 use mathlib.Core.Bool.{Bool}
 use mathlib.Core.List.{List, [], ◌∷◌, ◌++◌}
 use Prim.Native.Nat.{ℕ}
-use borrow.Author.Rules.{rules}
 use Rattle.refusal.specs.declared.Refusal.TheVariants.{Magnitude, Unknown}
 use Rattle.refusal.specs.Rows.{Row, row, check_of}
 use Rattle.refusal.proofs.Joined.{front_refused, front_passed}

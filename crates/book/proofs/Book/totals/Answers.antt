@@ -1,6 +1,5 @@
 -- A refused check is the row that it names; what passed is within the limits of the running totals. Assumes nothing.
 use mathlib.Core.Path.{◌≡◌, sym, ap, ◌∙◌}
-use borrow.Author.Rules.{rules}
 use Rattle.refusal.specs.declared.Checked.TheVariants.{Passed}
 use Rattle.refusal.specs.Rows.{check_of}
 use Rattle.units.specs.Rule.{totals}

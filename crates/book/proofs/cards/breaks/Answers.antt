@@ -1,11 +1,9 @@
 -- Each test is one of the rows of the new weights. Assumes nothing.
-use mathlib.Core.Path.{◌≡◌, sym, ap, ◌∙◌}
+use mathlib.Core.Path.{sym, ap, ◌∙◌}
 use mathlib.Core.Bool.{not}
-use Prim.Native.Nat.{ℕ, ◌+◌, ◌≤◌, ◌<◌}
+use Prim.Native.Nat.{◌+◌}
 use native.Mathlib.Omega.{arith}
-use borrow.Author.Rules.{rules}
 use borrow.Author.Tests.{lt-ltb, le-ltb, eq-eqb, ne_eqb}
-use lib.ListN.{length}
 use Rattle.book.specs.Books.{cards}
 use Rattle.book.specs.Checks.{refused_in, breaks_by}
 use Rattle.book.proofs.cards.breaks.Goals as goal

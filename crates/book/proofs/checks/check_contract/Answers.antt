@@ -1,6 +1,5 @@
 -- The weights decide first, and behind them the card. Assumes nothing.
 use mathlib.Core.Path.{sym, ◌∙◌}
-use borrow.Author.Rules.{rules}
 use Rattle.book.specs.Books.{weight_rows, card_rows}
 use Rattle.refusal.proofs.Joined.{front_refused, front_passed}
 use Rattle.book.proofs.checks.check_contract.Goals as goal

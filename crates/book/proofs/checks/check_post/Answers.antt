@@ -2,9 +2,8 @@
 use mathlib.Core.Path.{◌≡◌, sym, ap, ap₂, ◌∙◌}
 use mathlib.Core.Bool.{Bool, cond}
 use mathlib.Core.List.{List, [], ◌∷◌}
-use Prim.Native.Nat.{ℕ, ◌+◌, ◌≤◌, ◌<◌}
+use Prim.Native.Nat.{ℕ, ◌+◌}
 use native.Mathlib.Omega.{arith}
-use borrow.Author.Rules.{rules}
 use borrow.Author.Tests.{lt-ltb, le-ltb}
 use Rattle.refusal.specs.declared.Checked.TheVariants.{Passed}
 use Rattle.refusal.specs.declared.Refusal.TheVariants.{Limit}
@@ -22,9 +21,6 @@ use Rattle.book.proofs.checks.check_post.Goals as goal
 -- the last row
 abbrev last : Book → Amount → List Row
 last b a = row Limit (over_l (settled_sum b + (net_of b + units_of a))) ∷ []
-
-pub check_move-requires : goal.check_move-requires
-check_move-requires c = c.past_in-past.ensures
 
 -- where rows 2 to 10 passed, the sum that is told is that of the settled totals
 made : (b : Book) (a : Amount) (told net units : ℕ) → Fit b a → told ≡ cond (any_over b.settled) 0 (settled_sum b) → net ≡ net_of b → units ≡ units_of a
@@ -56,7 +52,7 @@ returns-then-settled-net_of-gt-L c =
     let sum = made b a _ _ _ (move_fit b a passed) c.past_in-past.ensures.sum c.net_of.ensures c.units_of.ensures in
     sym (front_passed (move_rows b a) (last b a) passed
     ∙ ap (λ (s : Bool). check_of (row Limit s ∷ []))
-      (lt-ltb largest (settled_sum b + (net_of b + units_of a)) (omega (arith, sum, c.if-settled-net_of-gt-L.true))))
+    (lt-ltb largest (settled_sum b + (net_of b + units_of a)) (omega (arith, sum, c.if-settled-net_of-gt-L.true))))
 
 pub returns-else-settled-net_of-gt-L : goal.returns-else-settled-net_of-gt-L
 returns-else-settled-net_of-gt-L c =
@@ -66,4 +62,4 @@ returns-else-settled-net_of-gt-L c =
     let sum = made b a _ _ _ (move_fit b a passed) c.past_in-past.ensures.sum c.net_of.ensures c.units_of.ensures in
     sym (front_passed (move_rows b a) (last b a) passed
     ∙ ap (λ (s : Bool). check_of (row Limit s ∷ []))
-      (le-ltb largest (settled_sum b + (net_of b + units_of a)) (omega (arith, sum, c.if-settled-net_of-gt-L.false))))
+    (le-ltb largest (settled_sum b + (net_of b + units_of a)) (omega (arith, sum, c.if-settled-net_of-gt-L.false))))

@@ -4,7 +4,6 @@ use mathlib.Core.Bool.{Bool}
 use mathlib.Core.List.{List, [], ◌∷◌}
 use Prim.Native.Nat.{◌≤◌, ◌<◌}
 use native.Mathlib.Omega.{arith}
-use borrow.Author.Rules.{rules}
 use borrow.Author.Tests.{lt-ltb, le-ltb}
 use Rattle.refusal.specs.declared.Checked.TheVariants.{Passed}
 use Rattle.refusal.specs.declared.Refusal.TheVariants.{Refund}
@@ -19,9 +18,6 @@ use Rattle.book.proofs.checks.check_refund.Goals as goal
 -- the last row
 abbrev last : Book → Amount → List Row
 last b a = row Refund (ltb (net_of b) (units_of a)) ∷ []
-
-pub check_move-requires : goal.check_move-requires
-check_move-requires c = c.past_in.ensures
 
 pub returns-in-Refused : goal.returns-in-Refused
 returns-in-Refused c =

@@ -1,6 +1,5 @@
 -- The weights and the card decide first, and behind them the signs. Assumes nothing.
 use mathlib.Core.Path.{sym, ◌∙◌}
-use borrow.Author.Rules.{rules}
 use Rattle.book.specs.Checks.{contract_rows, sign_rows}
 use Rattle.refusal.proofs.Joined.{front_refused, front_passed}
 use Rattle.book.proofs.checks.check_standing.Goals as goal

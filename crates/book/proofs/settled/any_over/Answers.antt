@@ -1,7 +1,7 @@
 -- From the last place down, none of the places passed is over L. Assumes nothing.
 use mathlib.Core.Path.{◌≡◌, refl, sym, ap, subst, ◌∙◌}
 use mathlib.Core.Bool.{false}
-use Prim.Native.Nat.{ℕ, suc, ◌-◌, ◌≤◌, ◌<◌}
+use Prim.Native.Nat.{ℕ, suc, ◌-◌}
 use native.Mathlib.Omega.{arith}
 use borrow.Author.Rules.{rules}
 use borrow.Author.Tests.{lt-ltb, le-ltb}
@@ -19,15 +19,6 @@ loop-i-init c =
     let long : length c.args.settled ≡ 16 = search rules in
     let h = long in (omega arith, none_past far_off c.args.settled 16 (omega arith))
 
-pub overflow_sub-i : goal.overflow_sub-i
-overflow_sub-i c = omega arith
-
-pub offset_bounds-settled-i : goal.offset_bounds-settled-i
-offset_bounds-settled-i c = omega arith
-
-pub bounds-settled-i : goal.bounds-settled-i
-bounds-settled-i c = omega arith
-
 pub returns-then-magnitude-gt-L : goal.returns-then-magnitude-gt-L
 returns-then-magnitude-gt-L c =
     let here : c.magnitude.result ≡ magnitude_of (get_or c.args.settled (c.loop-i.i - 1) (pos 0)) =
@@ -36,9 +27,6 @@ returns-then-magnitude-gt-L c =
     let zs = c.args.settled in
     let k = c.loop-i.i - 1 in
     sym (some_at far_off refl zs k (lt-ltb largest (magnitude_of (get_or zs k (pos 0))) (omega (arith, c.if-magnitude-gt-L.true, here))))
-
-pub loop-i-smaller : goal.loop-i-smaller
-loop-i-smaller c = omega arith
 
 pub loop-i-preserved : goal.loop-i-preserved
 loop-i-preserved c =

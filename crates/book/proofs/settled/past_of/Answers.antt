@@ -1,20 +1,13 @@
 -- Where one is over L that is told; else each sum is below 2^63, and what is told is read off the sums. Assumes nothing.
-use mathlib.Core.Path.{◌≡◌, refl, sym, ap, ap₂, ◌∙◌}
-use mathlib.Core.Bool.{Bool, true, false, cond}
-use mathlib.Core.List.{List, ◌∷◌}
-use Prim.Native.Nat.{ℕ, ◌*◌, ◌^◌, ◌≤◌}
+use mathlib.Core.Path.{◌≡◌, refl, sym, ap, ◌∙◌}
+use Prim.Native.Nat.{ℕ, ◌^◌, ◌≤◌}
 use native.Mathlib.Omega.{arith}
 use borrow.Author.Rules.{rules}
-use lib.Dec.{ltb}
-use lib.IntN.{ℤ, pos}
-use lib.ListN.{length, drop}
+use lib.IntN.{ℤ}
 use mir.Syntax.{w64}
 use mir.Val.{SFits, to_z, of_z}
 use mir.ValLaws.{to_z-of_z}
-use Rattle.whole.specs.Whole.{magnitude_of}
-use Rattle.amount.specs.Amounts.{largest}
-use Rattle.book.specs.Settled.{up_of, down_of, above, below, any_over}
-use Rattle.book.specs.Checks.{Tells}
+use Rattle.book.specs.Settled.{up_of, down_of}
 use Rattle.book.proofs.SettledTotals.{up_held, down_held, within}
 use Rattle.book.proofs.Told.{told_over, told_sums}
 use Rattle.book.proofs.settled.past_of.Goals as goal

@@ -1,16 +1,13 @@
 -- From the last place down, the sums are those of the places passed, each within L. Assumes nothing.
 use mathlib.Core.Path.{◌≡◌, refl, sym, ap, ◌∙◌}
-use mathlib.Core.Bool.{false}
 use mathlib.Core.List.{List}
-use Prim.Native.Nat.{ℕ, suc, ◌+◌, ◌-◌, ◌*◌, ◌≤◌, ◌<◌}
-use native.Mathlib.Decide.{dec_lt}
+use Prim.Native.Nat.{ℕ, suc, ◌+◌, ◌-◌, ◌≤◌}
 use native.Mathlib.Omega.{arith}
 use borrow.Author.Rules.{rules}
 use lib.IntN.{ℤ, pos}
 use lib.ListN.{length, get_or, drop}
 use Rattle.whole.proofs.Laws.{read_back}
-use Rattle.amount.specs.Amounts.{largest}
-use Rattle.book.specs.Settled.{up_of, down_of, above, below, any_over}
+use Rattle.book.specs.Settled.{up_of, down_of, above, below}
 use Rattle.book.proofs.SettledTotals.{above_earlier, below_earlier, none_behind_end, within}
 use Rattle.book.proofs.settled.sums_from.Goals as goal
 
@@ -28,15 +25,6 @@ loop-i-init c =
     let h = long in
     let none = none_behind_end c.args.settled 16 (omega arith) in (omega arith, sym none.0, sym none.1, λ b. refl)
 
-pub overflow_sub-i : goal.overflow_sub-i
-overflow_sub-i c = omega arith
-
-pub offset_bounds-settled-i : goal.offset_bounds-settled-i
-offset_bounds-settled-i c = omega arith
-
-pub bounds-settled-i : goal.bounds-settled-i
-bounds-settled-i c = omega arith
-
 pub overflow_add-above : goal.overflow_add-above
 overflow_add-above c =
     let long : length c.args.settled ≡ 16 = search rules in
@@ -47,12 +35,6 @@ overflow_add-above c =
     let h = long in
     omega (arith, (grows zs c.loop-i.i h (omega arith) c.loop-i.invariant.0).0, (within zs (c.loop-i.i - 1) h c.requires).0, upper, c.loop-i.invariant.1)
 
-pub offset_bounds-settled-i-in-loop-i : goal.offset_bounds-settled-i-in-loop-i
-offset_bounds-settled-i-in-loop-i c = omega arith
-
-pub bounds-settled-i-in-loop-i : goal.bounds-settled-i-in-loop-i
-bounds-settled-i-in-loop-i c = omega arith
-
 pub overflow_add-below : goal.overflow_add-below
 overflow_add-below c =
     let long : length c.args.settled ≡ 16 = search rules in
@@ -62,9 +44,6 @@ overflow_add-below c =
     let zs = c.args.settled in
     let h = long in
     omega (arith, (grows zs c.loop-i.i h (omega arith) c.loop-i.invariant.0).1, (within zs (c.loop-i.i - 1) h c.requires).1, lower, c.loop-i.invariant.2)
-
-pub loop-i-smaller : goal.loop-i-smaller
-loop-i-smaller c = omega arith
 
 pub loop-i-preserved : goal.loop-i-preserved
 loop-i-preserved c =
