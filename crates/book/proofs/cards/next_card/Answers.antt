@@ -30,8 +30,8 @@ returns c =
     let made : c.totals_at-totals.result ≡ totals c.args.book.weights (net_of c.args.book) =
     let b = c.args.book in
     c.totals_at-totals.ensures ∙ totals_are b.weights c.requires.some c.requires.most _ ∙ ap (totals b.weights) c.net_of.ensures in
-    let weights-long : length c.args.book.weights ≡ partners = search rules in
-    let settled-long : length c.args.book.settled ≡ partners = search rules in
+    let weights_long : length c.args.book.weights ≡ partners = search rules in
+    let settled_long : length c.args.book.settled ≡ partners = search rules in
     let b = c.args.book in
     ap (λ (zs : List ℤ). record { currency = b.currency; count = b.count; weights = c.args.weights; net = pos 0; card = b.card + 1; settled = zs })
-    (c.grown-settled.ensures ∙ ap (added_by b.settled) made ∙ added_are b c.requires settled-long weights-long)
+    (c.grown-settled.ensures ∙ ap (added_by b.settled) made ∙ added_are b c.requires settled_long weights_long)

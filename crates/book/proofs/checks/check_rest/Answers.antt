@@ -19,9 +19,9 @@ returns-in-Refused c =
 
 pub returns-in-Passed : goal.returns-in-Passed
 returns-in-Passed c =
-    let net-fits : SFits w64 c.args.book.net = search rules in
+    let net_fits : SFits w64 c.args.book.net = search rules in
     let a = c.args in
     c.check_last.ensures
-    ∙ ap (λ (x : Bool). check_of (last_rows a.broken x a.past.negative a.short)) (c.is_negative.ensures ∙ ap negative (to_z-of_z w64 a.book.net net-fits))
+    ∙ ap (λ (x : Bool). check_of (last_rows a.broken x a.past.negative a.short)) (c.is_negative.ensures ∙ ap negative (to_z-of_z w64 a.book.net net_fits))
     ∙ sym (front_passed (contract_rows a.book.count a.book.weights a.book.card a.past.behind) (last_rows a.broken (negative a.book.net) a.past.negative a.short)
     (sym c.check_contract.ensures ∙ c.in-Passed.is))

@@ -1,23 +1,9 @@
 -- Each turn reads one place's total off the row. Assumes nothing.
-use mathlib.Core.Path.{◌≡◌}
-use Prim.Native.Nat.{◌+◌, ◌-◌, ◌*◌, ◌/◌, ◌%◌, ◌≤◌}
 use native.Mathlib.Nat.{div-le_self}
 use native.Mathlib.Omega.{arith}
 use borrow.Author.Rules.{rules}
-use lib.ListN.{length, get_or}
-use Rattle.amount.specs.Amounts.{largest}
-use Rattle.cycle.proofs.Bounds.{total_within}
-use Rattle.bulk.proofs.RowTotals.{scale, Read, read_start, left_within, row_within, share_within, product_within, total_small, read_more, read_end}
+use Rattle.bulk.proofs.RowTotals.{scale, read_start, left_within, row_within, share_within, product_within, total_small, read_more, read_end}
 use Rattle.bulk.proofs.reading.totals_by.Goals as goal
-
-pub nonzero_div-cycles : goal.nonzero_div-cycles
-nonzero_div-cycles c = c.requires.weighed.some
-
-pub nonzero_rem-left : goal.nonzero_rem-left
-nonzero_rem-left c = c.requires.weighed.some
-
-pub nonzero_div-share : goal.nonzero_div-share
-nonzero_div-share c = c.requires.weighed.some
 
 pub overflow_add-share : goal.overflow_add-share
 overflow_add-share c = omega (arith, div-le_self scale c.args.sum)

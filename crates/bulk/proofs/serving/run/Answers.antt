@@ -1,7 +1,6 @@
 -- A refused check is the answer; what passed has a sound book and room for every call, and all are served. Assumes nothing.
 use mathlib.Core.Path.{◌≡◌, sym, ap₂, ◌∙◌}
 use mathlib.Core.Bool.{Bool}
-use borrow.Author.Rules.{rules}
 use lib.ListN.{length}
 use Rattle.refusal.specs.Rows.{check_of}
 use Rattle.book.specs.Books.{listed_rows}

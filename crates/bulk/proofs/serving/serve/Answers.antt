@@ -1,5 +1,4 @@
 -- Both ways meet the one promise. Assumes nothing.
-use borrow.Author.Rules.{rules}
 use Rattle.bulk.proofs.Standing.{sound_weighed}
 use Rattle.bulk.proofs.serving.serve.Goals as goal
 

@@ -1,9 +1,7 @@
 -- The table has the cycle's rows, and the book is the given one at the last net total, which an i64 holds. Assumes nothing.
 use mathlib.Core.Path.{◌≡◌, sym, ap, subst, ◌∙◌}
 use mathlib.Core.Bool.{false}
-use mathlib.Core.List.{List}
 use native.Mathlib.Omega.{arith}
-use borrow.Author.Rules.{rules}
 use lib.IntN.{pos}
 use mir.Syntax.{w64}
 use mir.Val.{to_z, of_z}

@@ -3,7 +3,6 @@
 use mathlib.Core.Path.{◌≡◌, sym, ap, ◌∙◌}
 use Prim.Native.Nat.{◌+◌, ◌≤◌}
 use native.Mathlib.Omega.{arith}
-use borrow.Author.Rules.{rules}
 use mir.Syntax.{w64}
 use mir.ValLaws.{to_z-of_z}
 use Rattle.whole.specs.Whole.{negative, magnitude_of}
@@ -13,13 +12,13 @@ use Rattle.bulk.proofs.tabled.step.Goals as goal
 
 pub returns-then-number-ne0 : goal.returns-then-number-ne0
 returns-then-number-ne0 c =
-    let same-m : c.magnitude-m.result ≡ magnitude_of c.args.coefficient =
+    let same_m : c.magnitude-m.result ≡ magnitude_of c.args.coefficient =
     c.magnitude-m.ensures ∙ ap magnitude_of (to_z-of_z w64 c.args.coefficient c.ranges.coefficient) in
     let same_sign : c.is_negative.result ≡ negative c.args.coefficient =
     c.is_negative.ensures ∙ ap negative (to_z-of_z w64 c.args.coefficient c.ranges.coefficient) in
     let a = c.args in
     step_refused a.settled a.weights a.refund a.coefficient a.j a.net c.magnitude-m.result c.check_call-number.result
-    c.is_negative.result a.payouts.now a.numbers.now a.held.now _ same_sign same-m
+    c.is_negative.result a.payouts.now a.numbers.now a.held.now _ same_sign same_m
     c.check_call-number.ensures c.requires.net_bound.1 c.if-number-ne0.true c.write.ensures
 
 pub overflow_sub-next : goal.overflow_sub-next
@@ -46,13 +45,13 @@ pay-requires c =
 
 pub returns-then-refund : goal.returns-then-refund
 returns-then-refund c =
-    let same-m : c.magnitude-m.result ≡ magnitude_of c.args.coefficient =
+    let same_m : c.magnitude-m.result ≡ magnitude_of c.args.coefficient =
     c.magnitude-m.ensures ∙ ap magnitude_of (to_z-of_z w64 c.args.coefficient c.ranges.coefficient) in
     let same_sign : c.is_negative.result ≡ negative c.args.coefficient =
     c.is_negative.ensures ∙ ap negative (to_z-of_z w64 c.args.coefficient c.ranges.coefficient) in
     let a = c.args in
     step_refunded a.settled a.weights a.refund a.coefficient a.j a.net c.magnitude-m.result c.check_call-number.result
-    c.is_negative.result a.payouts.now a.numbers.now a.held.now _ same_sign same-m
+    c.is_negative.result a.payouts.now a.numbers.now a.held.now _ same_sign same_m
     c.check_call-number.ensures c.requires.net_bound.1 c.if-number-ne0.false c.totals_by-totals.result c.if-refund.true c.totals_by-totals.ensures
     c.pay.ensures
 
@@ -81,12 +80,12 @@ pay-requires-2 c =
 
 pub returns : goal.returns
 returns c =
-    let same-m : c.magnitude-m.result ≡ magnitude_of c.args.coefficient =
+    let same_m : c.magnitude-m.result ≡ magnitude_of c.args.coefficient =
     c.magnitude-m.ensures ∙ ap magnitude_of (to_z-of_z w64 c.args.coefficient c.ranges.coefficient) in
     let same_sign : c.is_negative.result ≡ negative c.args.coefficient =
     c.is_negative.ensures ∙ ap negative (to_z-of_z w64 c.args.coefficient c.ranges.coefficient) in
     let a = c.args in
     step_posted a.settled a.weights a.refund a.coefficient a.j a.net c.magnitude-m.result c.check_call-number.result
-    c.is_negative.result a.payouts.now a.numbers.now a.held.now _ same_sign same-m
+    c.is_negative.result a.payouts.now a.numbers.now a.held.now _ same_sign same_m
     c.check_call-number.ensures c.requires.net_bound.1 c.if-number-ne0.false c.totals_by-totals-2.result c.if-refund.false c.totals_by-totals-2.ensures
     c.pay-2.ensures

@@ -1,5 +1,4 @@
 -- The call's answer gives the next book; its payouts and the number of its outcome are written. Assumes nothing.
-use borrow.Author.Rules.{rules}
 use mir.Syntax.{w64}
 use mir.ValLaws.{to_z-of_z}
 use Rattle.bulk.proofs.Call.{turned}
