@@ -1,11 +1,11 @@
 -- A loop that puts records into a buffer from a start on: its start, a turn and its end. Assumes nothing.
-use mathlib.Core.Path.{◌≡◌, refl, sym, ◌∙◌, ap}
+use mathlib.Core.Path.{◌≡◌, sym, ◌∙◌, ap}
 use mathlib.Core.Bool.{Bool, true, false}
 use mathlib.Core.List.{List, [], ◌++◌}
-use Prim.Native.Nat.{ℕ, ◌+◌, ◌*◌, ◌≤◌, ◌<◌}
+use Prim.Native.Nat.{ℕ, ◌+◌, ◌*◌, ◌≤◌}
 use native.Mathlib.Omega.{arith}
 use lib.ListN.{length}
-use Rattle.statement.specs.Bytes.{field_bytes, pasted}
+use Rattle.statement.specs.Bytes.{pasted}
 use Rattle.statement.specs.Files.{Piece, record_width, record_fields, record_bytes, joined, trailer_fields, trailer_bytes, trailer_width}
 use Rattle.statement.proofs.Pasting.{length_pasted, paste_nothing, paste_behind}
 use Rattle.statement.proofs.Behind.{joined_none, joined_more, length_joined}

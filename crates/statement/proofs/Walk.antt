@@ -1,7 +1,7 @@
 -- Records that stand inside the bytes, walked from the first on: each has its width before the trailer. Assumes nothing.
-use mathlib.Core.Path.{◌≡◌, refl, sym, ◌∙◌, ap}
+use mathlib.Core.Path.{◌≡◌, sym, ◌∙◌}
 use mathlib.Core.Bool.{Bool, true, false}
-use Prim.Native.Nat.{ℕ, suc, ◌+◌, ◌*◌, ◌-◌, ◌≤◌, ◌<◌}
+use Prim.Native.Nat.{ℕ, ◌+◌, ◌-◌, ◌≤◌, ◌<◌}
 use native.Mathlib.Nat.{mul-le-mul_left}
 use native.Mathlib.Decide.{dec_lt}
 use native.Mathlib.Omega.{arith}
@@ -40,5 +40,5 @@ ended_is width long at h = go (dec_lt (long - (width + trailer_width)) at)
     go (no f) = le-ltb (long - (width + trailer_width)) at (omega arith) ∙ sym (le-ltb long (at + width + trailer_width) (omega arith))
 
 -- a record stands where the walk has not ended
-pub goes_on_lem : (width long at : ℕ) → ended width long at ≡ false → at + width + trailer_width ≤ long
-goes_on_lem width long at e = ltb-false long (at + width + trailer_width) e
+pub goes_on : (width long at : ℕ) → ended width long at ≡ false → at + width + trailer_width ≤ long
+goes_on width long at e = ltb-false long (at + width + trailer_width) e

@@ -1,6 +1,5 @@
 -- An amount's rows stand in front of those of the weights and the output. Assumes nothing.
 use mathlib.Core.Path.{sym, ◌∙◌}
-use borrow.Author.Rules.{rules}
 use Rattle.refusal.proofs.Joined.{front_refused, front_passed}
 use Rattle.amount.specs.Amounts.{amount_rows}
 use Rattle.weights.specs.Weights.{list_rows}

@@ -1,7 +1,5 @@
 -- Either version has its number. Assumes nothing.
-use mathlib.Core.Path.{◌≡◌, refl, sym, ◌∙◌, ap, ap₂}
-use native.Mathlib.Omega.{arith}
-use borrow.Author.Rules.{rules}
+use mathlib.Core.Path.{sym, ap}
 use Rattle.statement.specs.Files.{version_of}
 use Rattle.statement.proofs.version_of.Goals as goal
 

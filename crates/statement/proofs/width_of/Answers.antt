@@ -1,7 +1,5 @@
 -- Either version has its width. Assumes nothing.
-use mathlib.Core.Path.{◌≡◌, refl, sym, ◌∙◌, ap, ap₂}
-use native.Mathlib.Omega.{arith}
-use borrow.Author.Rules.{rules}
+use mathlib.Core.Path.{sym, ap}
 use Rattle.statement.specs.Files.{record_width}
 use Rattle.statement.proofs.width_of.Goals as goal
 

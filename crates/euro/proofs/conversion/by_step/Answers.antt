@@ -1,7 +1,6 @@
 -- A refused check is the row that it names, and what passed is the amount converted. Assumes nothing.
 use mathlib.Core.Path.{◌≡◌, sym, ◌∙◌, ap}
 use Prim.Native.Nat.{ℕ}
-use borrow.Author.Rules.{rules}
 use lib.IntN.{ℤ}
 use Rattle.refusal.specs.Rows.{check_of}
 use Rattle.refusal.proofs.Check.{passed, refused}

@@ -1,9 +1,7 @@
 -- A euro amount is its own number in euro, within L, and an old unit's is the step's. Assumes nothing.
-use mathlib.Core.Path.{◌≡◌, sym, ◌∙◌, ap}
+use mathlib.Core.Path.{sym, ◌∙◌, ap}
 use native.Mathlib.Omega.{arith}
-use borrow.Author.Rules.{rules}
 use borrow.Author.Tests.{eq-eqb, ne_eqb}
-use Rattle.whole.specs.Whole.{magnitude_of, signed_of}
 use Rattle.whole.proofs.Laws.{magnitude_signed}
 use Rattle.rounding.specs.Product.{capped}
 use Rattle.rounding.proofs.Capped.{capped_is}

@@ -1,8 +1,7 @@
 -- After each turn one byte more stands in the list. Assumes nothing.
-use Prim.Native.Nat.{◌+◌, ◌-◌, ◌*◌}
+use Prim.Native.Nat.{◌+◌, ◌*◌}
 use native.Mathlib.Omega.{arith}
-use Rattle.hexadecimal.proofs.Pairs.{Filled, none_filled, one_filled, all_filled, digit_inside}
-use borrow.Author.Rules.{rules}
+use Rattle.hexadecimal.proofs.Pairs.{none_filled, one_filled, all_filled, digit_inside}
 use Rattle.hexadecimal.proofs.reading.fill.Goals as goal
 
 pub loop-i-init : goal.loop-i-init

@@ -3,7 +3,6 @@
 use mathlib.Core.Path.{◌∙◌, ap}
 use Prim.Native.Nat.{ℕ, ◌*◌}
 use native.Mathlib.Omega.{arith}
-use borrow.Author.Rules.{rules}
 use Rattle.whole.specs.Whole.{held_signed}
 use Rattle.whole.proofs.Laws.{read_back}
 use Rattle.rounding.specs.Product.{rounded_product}

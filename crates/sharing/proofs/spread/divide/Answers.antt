@@ -1,11 +1,9 @@
 -- The places passed hold the shares rounded down and the remainders, and what is left is the magnitude less the shares passed,
 -- whose sum never goes past it. Assumes nothing.
 use mathlib.Core.Path.{◌≡◌, ◌∙◌}
-use Prim.Native.Nat.{◌+◌, ◌-◌, ◌≤◌}
 use native.Mathlib.Omega.{arith}
 use borrow.Author.Rules.{rules}
-use lib.ListN.{length, get_or}
-use Rattle.whole.specs.Lists.{filled}
+use lib.ListN.{get_or}
 use Rattle.whole.specs.Sums.{sum_of}
 use Rattle.whole.proofs.Lists.{fill_none, fill_more, copy_length, copy_all}
 use Rattle.whole.proofs.Sums.{sum_to}
@@ -29,9 +27,6 @@ nonzero_rem-part c =
 pub loop-i-init : goal.loop-i-init
 unfolding sum_to
 loop-i-init c = (search rules, fill_none 0 _ _, fill_none 0 _ _, omega arith)
-
-pub overflow_cast-weight : goal.overflow_cast-weight
-overflow_cast-weight c = omega (arith, c.shared_slice_known-in-loop-i-1.given c.loop-i.i)
 
 pub overflow_mul-product : goal.overflow_mul-product
 overflow_mul-product c =

@@ -3,9 +3,7 @@
 use mathlib.Core.Path.{ap}
 use Prim.Native.Nat.{ℕ, ◌+◌, ◌<◌}
 use native.Mathlib.Omega.{arith}
-use borrow.Author.Rules.{rules}
 use lib.ListN.{length, get_or, set}
-use Rattle.remainder.specs.Rule.{largest}
 use Rattle.whole.proofs.Sums.{place_within}
 use Rattle.remainder.proofs.Largest.{largest_is}
 use Rattle.sharing.proofs.spread.serve_one.Goals as goal

@@ -1,8 +1,6 @@
 -- With reasons the eight bytes are at most the last code; without them there is nothing to look at. Assumes nothing.
-use mathlib.Core.Path.{◌≡◌, refl, sym, ◌∙◌, ap, ap₂}
+use mathlib.Core.Path.{◌∙◌, ap}
 use native.Mathlib.Omega.{arith}
-use borrow.Author.Rules.{rules}
-use Prim.Native.Nat.{ℕ}
 use lib.Dec.{ltb}
 use Rattle.statement.proofs.Heads.{code_with, code_without, width_with}
 use Rattle.statement.proofs.looking.bad_code.Goals as goal

@@ -1,10 +1,7 @@
 -- A record is bad by its head, by its coefficient, or by what stands behind it. Assumes nothing.
-use mathlib.Core.Path.{◌≡◌, refl, sym, ◌∙◌, ap, ap₂}
+use mathlib.Core.Path.{◌≡◌, sym, ◌∙◌, ap}
 use native.Mathlib.Omega.{arith}
-use borrow.Author.Rules.{rules}
-use mathlib.Core.Bool.{Bool, true, false}
 use Prim.Native.Nat.{ℕ, ◌+◌}
-use lib.Dec.{ltb}
 use Rattle.whole.specs.Whole.{magnitude_of}
 use Rattle.amount.specs.Amounts.{over_l}
 use Rattle.statement.specs.Bytes.{number_at, from_word}

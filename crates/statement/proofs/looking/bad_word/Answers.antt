@@ -1,7 +1,5 @@
 -- The magnitude is that of the coefficient which the word holds. Assumes nothing.
-use mathlib.Core.Path.{◌≡◌, refl, sym, ◌∙◌, ap, ap₂}
-use native.Mathlib.Omega.{arith}
-use borrow.Author.Rules.{rules}
+use mathlib.Core.Path.{◌∙◌, ap}
 use Rattle.whole.specs.Whole.{magnitude_of}
 use Rattle.whole.proofs.Laws.{read_back}
 use Rattle.amount.specs.Amounts.{over_l}

@@ -1,9 +1,9 @@
 -- None of the records passed is bad, and the sum so far is theirs; the walk stands at the next one. Assumes nothing.
-use mathlib.Core.Path.{◌≡◌, refl, sym, ◌∙◌, ap, ap₂}
+use mathlib.Core.Path.{◌≡◌, sym, ◌∙◌, ap, ap₂}
 use native.Mathlib.Omega.{arith}
 use borrow.Author.Rules.{rules}
-use mathlib.Core.Bool.{Bool, true, false}
-use Prim.Native.Nat.{ℕ, ◌+◌, ◌-◌, ◌≤◌, ◌<◌}
+use mathlib.Core.Bool.{false}
+use Prim.Native.Nat.{ℕ, ◌+◌}
 use borrow.Author.Tests.{ne_eqb, eq-eqb}
 use lib.IntN.{ℤ}
 use lib.ListN.{length}
@@ -17,14 +17,14 @@ use Rattle.statement.specs.Reading.{record_place, agreed_in, bad_record, coeffic
 use Rattle.statement.specs.Parts.{Few}
 use Rattle.statement.proofs.ReadBack.{number_below}
 use Rattle.statement.proofs.Any.{none_yet, still_none, found}
-use Rattle.statement.proofs.Totals.{total_none, sum_read, sum_fits, sum_more}
+use Rattle.statement.proofs.Totals.{total_none, sum_fits, sum_more}
 use Rattle.statement.proofs.Walk.{record_inside, read_inside, walk_start, walk_on}
 use Rattle.statement.proofs.Accepted.{all_small}
 use Rattle.statement.proofs.looking.check_records.Goals as goal
 
 pub loop-i-init : goal.loop-i-init
 loop-i-init c = let a = c.args in
-    (search rules, walk_start (record_width a.reasons) a.first, none_yet (λ k. bad_record a.reasons a.bytes.now (agreed_in a.bytes.now a.first) (record_place (record_width a.reasons) a.first k)), sym (ap (of_z w64) (total_none (coefficients_in a.bytes.now (record_width a.reasons) a.first))))
+    (search rules, walk_start (record_width a.reasons) a.first, none_yet (λ k. bad_record a.reasons a.bytes.now (agreed_in a.bytes.now a.first) (record_place (record_width a.reasons) a.first k)), sym (total_none (coefficients_in a.bytes.now (record_width a.reasons) a.first)))
 
 pub bad_record-requires : goal.bad_record-requires
 bad_record-requires c = let start = c in
@@ -61,13 +61,13 @@ add-sum-requires c =
     let read : to_z w64 (of_z w64 c.coefficient_at.result) ≡ coefficients_in c.args.bytes.now (record_width c.args.reasons) c.args.first c.loop-i.i = read_back c.coefficient_at.result c.coefficient_at.type_inv ∙ c.coefficient_at.ensures ∙ ap (coefficient_at c.args.bytes.now) c.loop-i.invariant.1 in
     let a = c.args in
     let at = c.loop-i in
-    sum_fits (coefficients_in a.bytes.now (record_width a.reasons) a.first) (at.i + 1) small at.i at.sum at.invariant.3 (omega arith) _ read
+    sum_fits (coefficients_in a.bytes.now (record_width a.reasons) a.first) (at.i + 1) small at.i _ at.invariant.3 (omega arith) _ read
 
 pub overflow_add-at : goal.overflow_add-at
 overflow_add-at c = let start = c in
     let a = start.args in
     let at = c.loop-i in
-    omega (arith, c.width_of_lem.ensures, record_inside a.reasons (length a.bytes.now) a.first a.count start.requires at.i at.at at.invariant.1 c.loop-i-test.true)
+    omega (arith, c.width_of-width.ensures, record_inside a.reasons (length a.bytes.now) a.first a.count start.requires at.i at.at at.invariant.1 c.loop-i-test.true)
 
 pub loop-i-preserved : goal.loop-i-preserved
 loop-i-preserved c =
@@ -84,9 +84,9 @@ loop-i-preserved c =
     let a = c.args in
     let at = c.loop-i in (
       omega arith,
-      ap (λ (w : ℕ). at.at + w) c.width_of_lem.ensures ∙ walk_on (record_width a.reasons) a.first at.i at.at at.invariant.1,
+      ap (λ (w : ℕ). at.at + w) c.width_of-width.ensures ∙ walk_on (record_width a.reasons) a.first at.i at.at at.invariant.1,
       still,
-      sum_more (coefficients_in a.bytes.now (record_width a.reasons) a.first) (at.i + 1) small at.i at.sum at.invariant.3 (omega arith) _ read c.add-sum.result c.add-sum.ensures,
+      sum_more (coefficients_in a.bytes.now (record_width a.reasons) a.first) (at.i + 1) small at.i _ at.invariant.3 (omega arith) _ read c.add-sum.result c.add-sum.ensures,
     )
 
 pub returns-then-word_of-word : goal.returns-then-word_of-word
@@ -103,7 +103,7 @@ returns-then-word_of-word c =
     let all : at.i ≡ a.count = omega arith in
     let f : ℕ → ℤ = (coefficients_in a.bytes.now (record_width a.reasons) a.first) in
     c.word_of.ensures
-    ∙ ap word_of (sum_read f a.count (all_small a.reasons a.bytes.now a.first a.count start.requires.few none) at.i at.sum at.invariant.3 (omega arith) ∙ ap (total_of f) all) in
+    ∙ ap word_of (at.invariant.3 ∙ ap (total_of f) all) in
     rw (none, ne_eqb _ _ (λ e. c.if-word_of-word.true (word ∙ e)))
 
 pub returns : goal.returns
@@ -120,5 +120,5 @@ returns c =
     let all : at.i ≡ a.count = omega arith in
     let f : ℕ → ℤ = (coefficients_in a.bytes.now (record_width a.reasons) a.first) in
     c.word_of.ensures
-    ∙ ap word_of (sum_read f a.count (all_small a.reasons a.bytes.now a.first a.count start.requires.few none) at.i at.sum at.invariant.3 (omega arith) ∙ ap (total_of f) all) in
+    ∙ ap word_of (at.invariant.3 ∙ ap (total_of f) all) in
     rw (none, eq-eqb _ _ (sym word ∙ c.if-word_of-word.false))

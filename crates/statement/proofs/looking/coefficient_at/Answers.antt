@@ -1,7 +1,5 @@
 -- The coefficient is what the word at its place holds. Assumes nothing.
-use mathlib.Core.Path.{◌≡◌, refl, sym, ◌∙◌, ap, ap₂}
-use native.Mathlib.Omega.{arith}
-use borrow.Author.Rules.{rules}
+use mathlib.Core.Path.{◌∙◌, ap}
 use Rattle.whole.proofs.Laws.{read_back}
 use Rattle.statement.specs.Bytes.{from_word}
 use Rattle.statement.proofs.looking.coefficient_at.Goals as goal

@@ -1,9 +1,6 @@
 -- The four bytes behind weigh 2^32 times those in front. Assumes nothing.
-use mathlib.Core.Path.{◌≡◌, refl, sym, ◌∙◌, ap, ap₂}
 use native.Mathlib.Omega.{arith}
-use borrow.Author.Rules.{rules}
-use Prim.Native.Nat.{ℕ, ◌+◌}
-use Rattle.statement.specs.Bytes.{number_at}
+use Prim.Native.Nat.{◌+◌}
 use Rattle.statement.proofs.ReadBack.{number_below}
 use Rattle.statement.proofs.Heads.{eight_is}
 use Rattle.statement.proofs.numbers.eight_at.Goals as goal

@@ -1,11 +1,7 @@
 -- Each byte is read at its place, and weighs 256 times the one before. Assumes nothing.
-use mathlib.Core.Path.{◌≡◌, refl, sym, ◌∙◌, ap, ap₂}
 use native.Mathlib.Omega.{arith}
-use borrow.Author.Rules.{rules}
-use Prim.Native.Nat.{ℕ, ◌+◌}
-use Rattle.statement.specs.Bytes.{number_at}
+use Prim.Native.Nat.{◌+◌}
 use Rattle.statement.proofs.Heads.{four_is}
-use Rattle.statement.proofs.numbers.wide.Reads as wide-reads
 use Rattle.statement.proofs.numbers.four_at.Goals as goal
 
 pub overflow_mul-result : goal.overflow_mul-result

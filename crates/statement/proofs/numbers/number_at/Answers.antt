@@ -1,12 +1,9 @@
 -- The bytes passed, from the last one on, hold the number so far. Assumes nothing.
-use mathlib.Core.Path.{◌≡◌, refl, sym, ◌∙◌, ap, ap₂}
+use mathlib.Core.Path.{◌≡◌, ◌∙◌}
 use borrow.Author.Rules.{rules}
 use native.Mathlib.Omega.{arith}
-use Prim.Native.Nat.{ℕ, ◌+◌, ◌-◌, ◌≤◌}
-use lib.ListN.{length, get_or}
-use Rattle.statement.specs.Bytes.{number_at}
-use Rattle.statement.proofs.ReadBack.{Bytes, none_read, number_step_lem, all_read, number_fits}
-use Rattle.statement.proofs.numbers.wide.Reads as wide-reads
+use Prim.Native.Nat.{◌+◌, ◌-◌}
+use Rattle.statement.proofs.ReadBack.{none_read, number_step, all_read, number_fits}
 use Rattle.statement.proofs.numbers.number_at.Goals as goal
 
 pub loop-i-init : goal.loop-i-init
@@ -26,7 +23,7 @@ pub loop-i-preserved : goal.loop-i-preserved
 loop-i-preserved c = let a = c.args in
     let at = c.loop-i in (
       omega arith,
-      number_step_lem a.bytes.now a.at at.i a.count at.number c.wide.result (omega arith) at.invariant.0 at.invariant.1 c.wide.ensures,
+      number_step a.bytes.now a.at at.i a.count at.number c.wide.result (omega arith) at.invariant.0 at.invariant.1 c.wide.ensures,
     )
 
 pub returns : goal.returns

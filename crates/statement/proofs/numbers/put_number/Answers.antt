@@ -1,10 +1,9 @@
 -- The places passed hold the number's first bytes, and what is left of the number has the others. Assumes nothing.
-use mathlib.Core.Path.{◌≡◌, refl, sym, ◌∙◌, ap, ap₂}
+use mathlib.Core.Path.{◌≡◌, ◌∙◌, ap}
 use borrow.Author.Rules.{rules}
 use native.Mathlib.Omega.{arith}
-use Prim.Native.Nat.{ℕ, ◌+◌, ◌-◌, ◌≤◌}
-use lib.ListN.{length, drop}
-use lib.Seq.{paste, paste-zero, length-paste}
+use lib.ListN.{length}
+use lib.Seq.{paste-zero, length-paste}
 use Rattle.statement.specs.Bytes.{little_endian}
 use Rattle.statement.proofs.ReadBack.{length_little}
 use Rattle.statement.proofs.Putting.{put_start, put_rest, put_more, put_all}

@@ -1,14 +1,10 @@
 -- Too few bytes for a trailer are no file; else the rows of its version decide. Assumes nothing.
-use mathlib.Core.Path.{◌≡◌, refl, sym, ◌∙◌, ap, ap₂}
-use native.Mathlib.Omega.{arith}
-use borrow.Author.Rules.{rules}
+use mathlib.Core.Path.{◌∙◌, ap}
 use mathlib.Core.Bool.{Bool}
-use mathlib.Core.List.{List}
-use Prim.Native.Nat.{ℕ, ◌-◌}
 use borrow.Author.Tests.{lt-ltb, le-ltb}
 use lib.ListN.{length}
 use Rattle.refusal.specs.Rows.{check_of}
-use Rattle.statement.specs.Reading.{trailer_place, trailer_in, file_rows, reasons_in, version_rows, any_rows}
+use Rattle.statement.specs.Reading.{trailer_place, trailer_in, file_rows, version_rows, any_rows}
 use Rattle.statement.proofs.reading.check_any_file.Goals as goal
 
 pub returns-then-bytes-lt-TRAILER : goal.returns-then-bytes-lt-TRAILER

@@ -1,8 +1,5 @@
 -- Too few bytes for a trailer are no file; a trailer of version 2 is newer; else the rows of version 1 decide. Assumes nothing.
-use mathlib.Core.Path.{◌≡◌, refl, sym, ◌∙◌, ap, ap₂}
-use native.Mathlib.Omega.{arith}
-use borrow.Author.Rules.{rules}
-use mathlib.Core.Bool.{Bool, true, false}
+use mathlib.Core.Path.{◌≡◌, sym, ◌∙◌, ap}
 use borrow.Author.Tests.{lt-ltb, le-ltb}
 use lib.ListN.{length}
 use Rattle.statement.specs.Reading.{trailer_in, newer_at, newer, version_rows, read_rows}

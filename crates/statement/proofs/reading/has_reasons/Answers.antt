@@ -1,7 +1,5 @@
 -- The version is the trailer's. Assumes nothing.
-use mathlib.Core.Path.{◌≡◌, refl, sym, ◌∙◌, ap, ap₂}
-use native.Mathlib.Omega.{arith}
-use borrow.Author.Rules.{rules}
+use mathlib.Core.Path.{ap}
 use lib.Dec.{eqb}
 use Rattle.statement.specs.declared.Trailer.{Trailer}
 use Rattle.statement.proofs.reading.has_reasons.Goals as goal

@@ -1,11 +1,10 @@
 -- The two fields are put in one behind the other. Assumes nothing.
-use mathlib.Core.Path.{◌≡◌, refl, sym, ◌∙◌, ap, ap₂}
+use mathlib.Core.Path.{◌∙◌, ap, ap₂}
 use native.Mathlib.Omega.{arith}
-use borrow.Author.Rules.{rules}
 use mathlib.Core.List.{List}
 use Prim.Native.Nat.{ℕ, ◌+◌}
 use Rattle.statement.specs.Bytes.{little_endian, pasted}
-use Rattle.statement.specs.Files.{code_bytes, code_zeros}
+use Rattle.statement.specs.Files.{code_zeros}
 use Rattle.statement.proofs.Widths.{parts}
 use Rattle.statement.proofs.records.put_code.Goals as goal
 

@@ -1,9 +1,7 @@
 -- None of the coefficients passed is over L. Assumes nothing.
-use mathlib.Core.Path.{◌≡◌, refl, sym, ◌∙◌, ap, ap₂}
+use mathlib.Core.Path.{◌≡◌, sym, ◌∙◌, ap}
 use borrow.Author.Rules.{rules}
 use native.Mathlib.Omega.{arith}
-use mathlib.Core.Bool.{false}
-use Prim.Native.Nat.{ℕ, ◌-◌, ◌≤◌}
 use borrow.Author.Tests.{lt-ltb, le-ltb}
 use lib.IntN.{pos}
 use lib.ListN.{length, get_or}
@@ -12,7 +10,6 @@ use Rattle.whole.proofs.Laws.{read_back}
 use Rattle.amount.specs.Amounts.{largest}
 use Rattle.statement.specs.Writing.{any_of, over_at}
 use Rattle.statement.proofs.Any.{none_yet, still_none, found}
-use Rattle.whole.proofs.magnitude.Reads as magnitude-reads
 use Rattle.statement.proofs.runs.any_over.Goals as goal
 
 pub loop-i-init : goal.loop-i-init

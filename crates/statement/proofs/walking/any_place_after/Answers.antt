@@ -1,7 +1,4 @@
 -- A version's number chooses its walk. Assumes nothing.
-use mathlib.Core.Path.{◌≡◌, refl, sym, ◌∙◌, ap, ap₂}
-use native.Mathlib.Omega.{arith}
-use borrow.Author.Rules.{rules}
 use borrow.Author.Tests.{eq-eqb, ne_eqb}
 use Rattle.statement.specs.Walking.{any_place_after}
 use Rattle.statement.proofs.walking.any_place_after.Goals as goal

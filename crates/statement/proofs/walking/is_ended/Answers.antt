@@ -1,8 +1,5 @@
 -- The record and the trailer together end before the bytes do, or not. Assumes nothing.
-use mathlib.Core.Path.{◌≡◌, refl, sym, ◌∙◌, ap, ap₂}
-use native.Mathlib.Omega.{arith}
 use Rattle.statement.proofs.Walk.{ended_short, ended_is}
-use borrow.Author.Rules.{rules}
 use Rattle.statement.proofs.walking.is_ended.Goals as goal
 
 pub returns-then-long-width : goal.returns-then-long-width

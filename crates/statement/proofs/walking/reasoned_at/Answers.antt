@@ -1,8 +1,7 @@
 -- A number of two bytes or of none fits, and the coefficient is read at its place. Assumes nothing.
-use mathlib.Core.Path.{◌≡◌, refl, sym, ◌∙◌, ap, ap₂}
+use mathlib.Core.Path.{◌≡◌, ◌∙◌, ap}
 use native.Mathlib.Omega.{arith}
-use borrow.Author.Rules.{rules}
-use Prim.Native.Nat.{ℕ, ◌+◌}
+use Prim.Native.Nat.{◌+◌}
 use Rattle.whole.proofs.Laws.{read_back}
 use Rattle.statement.specs.Bytes.{number_at}
 use Rattle.statement.specs.Files.{code_bytes}

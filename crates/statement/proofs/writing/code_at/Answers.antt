@@ -1,7 +1,5 @@
 -- A code is read at its place; behind the list there is none. Assumes nothing.
-use mathlib.Core.Path.{◌≡◌, refl, sym, ◌∙◌, ap, ap₂}
-use native.Mathlib.Omega.{arith}
-use borrow.Author.Rules.{rules}
+use mathlib.Core.Path.{sym}
 use lib.ListN.{get_or-eq_default}
 use Rattle.statement.proofs.writing.code_at.Goals as goal
 

@@ -1,7 +1,6 @@
 -- A magnitude within L is one that an i64 holds with either sign. Assumes nothing.
 use mathlib.Core.Path.{◌∙◌, ap}
 use native.Mathlib.Omega.{arith}
-use borrow.Author.Rules.{rules}
 use Rattle.whole.proofs.Laws.{read_back, held_within}
 use Rattle.tax.specs.Tax.{like}
 use Rattle.tax.proofs.price.with.Goals as goal
