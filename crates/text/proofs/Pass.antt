@@ -2,8 +2,8 @@
 -- every place that the pass came to; and what it answers behind the digits before the point is the call's answer. Assumes nothing.
 use mathlib.Core.Path.{◌≡◌, refl, sym, ◌∙◌, ap}
 use mathlib.Core.Bool.{Bool, true, false, not, ◌||◌}
-use mathlib.Core.List.{List, [], ◌∷◌, ◌++◌}
-use Prim.Native.Nat.{ℕ, suc, ◌+◌, ◌-◌, ◌*◌, ◌^◌, ◌≤◌, ◌<◌}
+use mathlib.Core.List.{List}
+use Prim.Native.Nat.{ℕ, ◌+◌, ◌-◌, ◌*◌, ◌^◌, ◌≤◌, ◌<◌}
 use native.Mathlib.Nat.{pow-suc}
 use native.Mathlib.Numerals.{add-one}
 use native.Mathlib.Omega.{arith}
@@ -16,8 +16,8 @@ use Rattle.lines.specs.Lines.{span, is_digit, worth}
 use Rattle.lines.proofs.Spans.{span_le}
 use Rattle.currency.specs.declared.Currency.{Currency}
 use Rattle.currency.specs.Table.{unknown}
-use Rattle.text.specs.Read.{start_in, digits_end, fraction_from, number_at, scale_at, bad_whole, bad_fraction, bad_shape, read_said, made_said, Shaped}
-use Rattle.text.specs.Scan.{digits_from, bad_point, rest_said, Scanned}
+use Rattle.text.specs.Read.{start_in, digits_end, fraction_from, number_at, scale_at, bad_whole, bad_fraction, bad_shape, read_said, made_said}
+use Rattle.text.specs.Scan.{digits_from, bad_point, rest_said}
 use Rattle.text.proofs.Digits.{worth_join}
 use Rattle.text.proofs.Accepted.{both_fail, first_fails, cut}
 use Rattle.text.proofs.Numbers.{malformed_said, shaped_said}

@@ -3,7 +3,7 @@
 use mathlib.Core.Path.{◌≡◌, refl, sym, ◌∙◌, ap, ap₂}
 use mathlib.Core.Bool.{Bool, false}
 use mathlib.Core.List.{List, [], ◌∷◌, ◌++◌, append_assoc}
-use Prim.Native.Nat.{ℕ, zero, suc, ◌+◌, ◌-◌, ◌*◌, ◌/◌, ◌%◌, ◌^◌, ◌≤◌, ◌<◌}
+use Prim.Native.Nat.{ℕ, zero, suc, ◌+◌, ◌*◌, ◌/◌, ◌%◌, ◌^◌, ◌≤◌, ◌<◌}
 use native.Mathlib.Nat.{pow-suc, one-le-pow, mod-one, mod-lt, mod-eq_of_lt, div-add-mod', mul-add-mod_self_right}
 use native.Mathlib.Omega.{arith}
 use borrow.Author.Tests.{le-ltb, lt-ltb, ltb-false}
@@ -23,7 +23,7 @@ use Rattle.text.specs.declared.Written.{Written}
 use Rattle.text.specs.Grammar.{minus, pointed}
 use Rattle.amount.specs.declared.Amount.{Amount}
 use Rattle.amount.specs.Amounts.{last_scale, amount_rows}
-use Rattle.text.specs.Written.{last_digits, spelled, text_of as textOfAmount, write_said, room_rows, room_said, buffer_after, Writes}
+use Rattle.text.specs.Written.{last_digits, spelled, text_of as amount_text, write_said, room_rows, room_said, buffer_after, Writes}
 use Rattle.text.proofs.Spelled.{last_length}
 
 -- a piece behind a piece
@@ -201,17 +201,17 @@ module _ (a : Amount) (out : List ℕ) where
   abbrev front : List Row
   front = amount_rows a.scale (magnitude_of a.coefficient) a.currency
 
-  pub passed_said : check_of front ≡ Passed → write_said a (length out) ≡ room_said (textOfAmount a) (length out)
+  pub passed_said : check_of front ≡ Passed → write_said a (length out) ≡ room_said (amount_text a) (length out)
   unfolding write_said
   passed_said e =
-      rows_behind (gives (length (textOfAmount a))) front (room_rows (textOfAmount a) (length out)) ∙ passed (room_said (textOfAmount a) (length out)) front e
+      rows_behind (gives (length (amount_text a))) front (room_rows (amount_text a) (length out)) ∙ passed (room_said (amount_text a) (length out)) front e
 
   pub passed_scale : check_of front ≡ Passed → a.scale ≤ last_scale
   passed_scale e = ltb-false last_scale a.scale (clear front e).0
 
-  pub refused_writes : (r : Refusal) → check_of front ≡ Refused r → Writes (textOfAmount a) (write_said a (length out)) out (record { outcome = Refused r; length = 0 }) out
+  pub refused_writes : (r : Refusal) → check_of front ≡ Refused r → Writes (amount_text a) (write_said a (length out)) out (record { outcome = Refused r; length = 0 }) out
   unfolding write_said buffer_after
   refused_writes r e =
       let said : write_said a (length out) ≡ refuses (number_of r) (blamed_of r) =
-      rows_behind (gives (length (textOfAmount a))) front (room_rows (textOfAmount a) (length out)) ∙ refused (room_said (textOfAmount a) (length out)) front r e in
+      rows_behind (gives (length (amount_text a))) front (room_rows (amount_text a) (length out)) ∙ refused (room_said (amount_text a) (length out)) front r e in
       rw said (record { answer = refl; reported = refl; left = refl })

@@ -1,7 +1,6 @@
 -- Its three numbers, one by one. No list has a place past the largest, so that the numbers there are 0. Assumes nothing.
 use Prim.Native.Nat.{◌+◌}
 use native.Mathlib.Omega.{arith}
-use borrow.Author.Rules.{rules}
 use Rattle.whole.proofs.Laws.{read_back}
 use Rattle.intake.proofs.Beyond.{unsigned_beyond, signed_beyond}
 use Rattle.intake.proofs.numbers.amount_at.Goals as goal

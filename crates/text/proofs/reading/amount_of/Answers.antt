@@ -28,8 +28,9 @@ returns c = let a = c.args in
     let is : to_z w64 (of_z w64 c.signed.result) ≡ signed_of a.negative a.m =
     read_back c.signed.result c.signed.type_inv ∙ c.signed.ensures ∙ held_within a.negative a.m (omega (arith, largest_below, c.if-m-gt-L.false)) in
     let zero : signed_zero a.negative a.m ≡ false =
-    elim c.if-m-eq0.branch
-    [ then-m-eq0+else-negative w ↦ ap (λ (s : Bool). signed_zero s a.m) w.if-negative.false
-    | else-m-eq0 w ↦ zero_good a.negative a.m (λ e. omega (arith, w.if-m-eq0.false)) ] in
+    elim c.if-m-eq0.branch [
+      | then-m-eq0+else-negative w ↦ ap (λ (s : Bool). signed_zero s a.m) w.if-negative.false
+      | else-m-eq0 w ↦ zero_good a.negative a.m (λ e. omega (arith, w.if-m-eq0.false))
+    ] in
     ap (λ (z : ℤ). gives (record { currency = a.currency; scale = a.scale; coefficient = z })) is
     ∙ sym (made_said_lem a.currency a.negative a.scale a.m c.if-m-gt-L.false zero)

@@ -1,6 +1,5 @@
 -- Row 4, then a long text or a short one. Assumes nothing.
 use mathlib.Core.Path.{sym}
-use borrow.Author.Rules.{rules}
 use borrow.Author.Tests.{lt-ltb, le-ltb}
 use Rattle.text.proofs.Numbers.{unknown_said}
 use Rattle.text.proofs.reading.read.Goals as goal

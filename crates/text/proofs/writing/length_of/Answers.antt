@@ -10,7 +10,6 @@ use Rattle.lines.proofs.Decimal.{decimal_short}
 use Rattle.currency.specs.Tens.{power_of_ten}
 use Rattle.currency.proofs.Tables.{power_of_ten_lem}
 use Rattle.text.specs.Grammar.{minus}
-use Rattle.text.proofs.Spelled.{minus_length}
 use Rattle.text.proofs.Placed.{no_point, point_length, spelled_length}
 use Rattle.text.proofs.writing.length_of.Goals as goal
 use Rattle.text.proofs.writing.length_of.Goals.{then-negative, else-negative}
@@ -35,7 +34,6 @@ nonzero_div-m c = omega (arith, not_zero _ _ c.requires c.power_of_ten.ensures)
 
 pub overflow_add-count : goal.overflow_add-count
 overflow_add-count c = omega (arith, at_most_20 _ _ c.requires c.power_of_ten.ensures _ _ c.places-count.ensures)
-
 
 -- a minus is one byte
 minus_one : (negative : Bool) (q count : ℕ) → negative ≡ true → count ≡ q + 1 → count ≡ length (minus negative) + q

@@ -1,11 +1,8 @@
 -- A minus, or nothing. Assumes nothing.
-use mathlib.Core.Path.{◌≡◌, sym, ap, ◌∙◌}
-use mathlib.Core.Bool.{Bool}
+use mathlib.Core.Path.{sym}
 use mathlib.Core.List.{[]}
 use native.Mathlib.Omega.{arith}
-use Rattle.lines.specs.Texts.{put_at, place_behind}
 use Rattle.lines.proofs.Fills.{behind}
-use Rattle.text.specs.Grammar.{minus}
 use Rattle.text.proofs.Placed.{put_none}
 use Rattle.text.proofs.writing.put_sign.Goals as goal
 
