@@ -1,7 +1,6 @@
 -- The principal's own rows stand in front of the others at what the call takes. Assumes nothing.
 use mathlib.Core.Path.{sym, ◌∙◌}
 use mathlib.Core.List.{◌++◌}
-use borrow.Author.Rules.{rules}
 use Rattle.refusal.specs.Rows.{rate_rows}
 use Rattle.refusal.proofs.Joined.{front_refused, front_passed}
 use Rattle.amount.specs.Amounts.{amount_rows}

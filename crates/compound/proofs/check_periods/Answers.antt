@@ -1,11 +1,9 @@
 -- Row 6 at the periods stands in front, and behind it the two tests are those of rows 10 and 11. Assumes nothing.
 use mathlib.Core.Path.{◌≡◌, sym, ◌∙◌}
 use mathlib.Core.List.{[], ◌∷◌}
-use borrow.Author.Rules.{rules}
 use borrow.Author.Tests.{lt-ltb, le-ltb}
 use lib.Dec.{ltb}
 use Rattle.refusal.specs.declared.Refusal.TheVariants.{Negative, Room}
-use Rattle.refusal.specs.declared.Checked.TheVariants.{Passed}
 use Rattle.refusal.specs.Rows.{row, check_of, rate_rows}
 use Rattle.refusal.proofs.Joined.{front_refused, front_passed}
 use Rattle.compound.specs.Table.{most_periods, row_count, period_rows}

@@ -1,6 +1,5 @@
 -- Row 6 at the rate stands in front of those at the periods, the sign and the room. Assumes nothing.
 use mathlib.Core.Path.{sym, ◌∙◌}
-use borrow.Author.Rules.{rules}
 use Rattle.refusal.specs.Rows.{rate_rows}
 use Rattle.refusal.proofs.Joined.{front_refused, front_passed}
 use Rattle.balances.specs.Rule.{points}

@@ -1,6 +1,5 @@
 -- The row of the number stands in front of those of the weights and the output. Assumes nothing.
 use mathlib.Core.Path.{sym, ◌∙◌}
-use borrow.Author.Rules.{rules}
 use Rattle.refusal.specs.Rows.{rate_rows}
 use Rattle.refusal.proofs.Joined.{front_refused, front_passed}
 use Rattle.weights.specs.Weights.{list_rows}

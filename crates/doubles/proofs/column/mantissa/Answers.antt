@@ -1,5 +1,4 @@
 -- Each arm is the definition's. Assumes nothing.
-use borrow.Author.Rules.{rules}
 use borrow.Author.Tests.{eq-eqb, ne_eqb}
 use Rattle.doubles.proofs.column.mantissa.Goals as goal
 

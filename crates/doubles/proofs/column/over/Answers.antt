@@ -3,7 +3,6 @@ use mathlib.Core.Path.{◌≡◌, ◌∙◌, ap}
 use Prim.Native.Nat.{ℕ, ◌+◌, ◌*◌, ◌%◌, ◌^◌, ◌<◌, ◌≤◌}
 use native.Mathlib.Nat.{one-mul, pow-le-pow_right}
 use native.Mathlib.Omega.{arith}
-use borrow.Author.Rules.{rules}
 use lib.Pow.{shl_exact}
 use Rattle.rounding.specs.Leaf.{rounded_magnitude}
 use Rattle.doubles.proofs.Columns.{tiny_is}

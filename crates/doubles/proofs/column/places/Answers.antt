@@ -1,6 +1,5 @@
 -- Each arm is the difference. Assumes nothing.
 use native.Mathlib.Omega.{arith}
-use borrow.Author.Rules.{rules}
 use Rattle.doubles.proofs.column.places.Goals as goal
 
 pub returns-then-field-eq0 : goal.returns-then-field-eq0

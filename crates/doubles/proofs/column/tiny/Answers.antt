@@ -1,7 +1,6 @@
 -- No rule raises 0; any other number rises where the rule says so of a rest below the half. Assumes nothing.
 use mathlib.Core.Path.{◌≡◌, refl, ◌∙◌, ap}
 use mathlib.Core.Bool.{Bool, true, false}
-use borrow.Author.Rules.{rules}
 use borrow.Author.Tests.{eq-eqb, ne_eqb}
 use mir.Val.{bool_byte}
 use Rattle.rounding.specs.Leaf.{raised}

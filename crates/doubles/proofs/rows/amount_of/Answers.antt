@@ -2,7 +2,6 @@
 use mathlib.Core.Path.{◌∙◌, ap}
 use mathlib.Core.Bool.{Bool}
 use native.Mathlib.Omega.{arith}
-use borrow.Author.Rules.{rules}
 use Rattle.whole.specs.Whole.{signed_of}
 use Rattle.whole.proofs.Laws.{read_back, held_within}
 use Rattle.doubles.specs.Doubles.{amount_at}

@@ -2,12 +2,11 @@
 -- Assumes nothing.
 use mathlib.Core.Path.{◌≡◌, sym, ◌∙◌}
 use mathlib.Core.List.{List}
-use Prim.Native.Nat.{ℕ, ◌+◌, ◌*◌, ◌-◌, ◌/◌, ◌≤◌}
+use Prim.Native.Nat.{ℕ, ◌*◌, ◌/◌, ◌≤◌}
 use native.Mathlib.Nat.{mul-le-mul}
 use native.Mathlib.Omega.{arith}
 use borrow.Author.Rules.{rules}
-use lib.ListN.{length, get_or}
-use Rattle.whole.specs.Lists.{filled}
+use lib.ListN.{get_or}
 use Rattle.whole.specs.Sums.{sum_of}
 use Rattle.whole.proofs.Lists.{fill_none, fill_more, copy_length, copy_all}
 use Rattle.whole.proofs.Sums.{sum_to, place_within}
@@ -19,15 +18,12 @@ use Rattle.remainder.proofs.Left.{enough, less_left, all_left}
 use Rattle.vouchers.specs.Said.{most_vouchers}
 use Rattle.vouchers.proofs.giving.start.Goals as goal
 
-share-is : (m : ℕ) (ws : List ℕ) (total i : ℕ) → total ≡ sum_of ws → m * get_or ws i 0 / total ≡ get_or (rounded_down m ws) i 0
-share-is m ws total i e = rw e (sym (rounded_at m ws i))
+share_is : (m : ℕ) (ws : List ℕ) (total i : ℕ) → total ≡ sum_of ws → m * get_or ws i 0 / total ≡ get_or (rounded_down m ws) i 0
+share_is m ws total i e = rw e (sym (rounded_at m ws i))
 
 pub loop-i-init : goal.loop-i-init
 unfolding sum_to
 loop-i-init c = (search rules, fill_none 0 _ _, omega arith)
-
-pub overflow_cast-share-in-loop-i : goal.overflow_cast-share-in-loop-i
-overflow_cast-share-in-loop-i c = omega (arith, c.shared_slice_known-in-loop-i-1.given c.loop-i.i)
 
 pub overflow_mul-share : goal.overflow_mul-share
 overflow_mul-share c = let a = c.args in
@@ -37,15 +33,15 @@ overflow_mul-share c = let a = c.args in
 
 pub nonzero_div-share : goal.nonzero_div-share
 nonzero_div-share c =
-    let total-is : c.weigh-total.result ≡ sum_of c.args.weights.now = c.weigh-total.ensures ∙ weighed_sum c.args.weights.now (omega arith) in
-    omega (arith, total-is)
+    let total_is : c.weigh-total.result ≡ sum_of c.args.weights.now = c.weigh-total.ensures ∙ weighed_sum c.args.weights.now (omega arith) in
+    omega (arith, total_is)
 
 pub overflow_cast-share-in-loop-i-2 : goal.overflow_cast-share-in-loop-i-2
 overflow_cast-share-in-loop-i-2 c =
-    let total-is : c.weigh-total.result ≡ sum_of c.args.weights.now = c.weigh-total.ensures ∙ weighed_sum c.args.weights.now (omega arith) in
+    let total_is : c.weigh-total.result ≡ sum_of c.args.weights.now = c.weigh-total.ensures ∙ weighed_sum c.args.weights.now (omega arith) in
     let a = c.args in
     let at = c.loop-i in
-    omega (arith, share-is a.count a.weights.now c.weigh-total.result at.i total-is, enough a.count a.weights.now (omega arith) at.i at.left at.invariant.2 (omega arith))
+    omega (arith, share_is a.count a.weights.now c.weigh-total.result at.i total_is, enough a.count a.weights.now (omega arith) at.i at.left at.invariant.2 (omega arith))
 
 pub bounds-held-i : goal.bounds-held-i
 bounds-held-i c = let a = c.args in
@@ -54,17 +50,17 @@ bounds-held-i c = let a = c.args in
 
 pub overflow_sub-left : goal.overflow_sub-left
 overflow_sub-left c =
-    let total-is : c.weigh-total.result ≡ sum_of c.args.weights.now = c.weigh-total.ensures ∙ weighed_sum c.args.weights.now (omega arith) in
+    let total_is : c.weigh-total.result ≡ sum_of c.args.weights.now = c.weigh-total.ensures ∙ weighed_sum c.args.weights.now (omega arith) in
     let a = c.args in
     let at = c.loop-i in
-    omega (arith, share-is a.count a.weights.now c.weigh-total.result at.i total-is, enough a.count a.weights.now (omega arith) at.i at.left at.invariant.2 (omega arith))
+    omega (arith, share_is a.count a.weights.now c.weigh-total.result at.i total_is, enough a.count a.weights.now (omega arith) at.i at.left at.invariant.2 (omega arith))
 
 pub loop-i-preserved : goal.loop-i-preserved
 loop-i-preserved c =
-    let total-is : c.weigh-total.result ≡ sum_of c.args.weights.now = c.weigh-total.ensures ∙ weighed_sum c.args.weights.now (omega arith) in
+    let total_is : c.weigh-total.result ≡ sum_of c.args.weights.now = c.weigh-total.ensures ∙ weighed_sum c.args.weights.now (omega arith) in
     let a = c.args in
     let at = c.loop-i in
-    let share = share-is a.count a.weights.now c.weigh-total.result at.i total-is in (
+    let share = share_is a.count a.weights.now c.weigh-total.result at.i total_is in (
       omega arith,
       fill_more 0 (λ k. get_or (rounded_down a.count a.weights.now) k 0) a.held.now at.held at.i at.i _ at.invariant.1 (omega arith) share,
       rw share (less_left a.count a.weights.now (omega arith) at.i at.left at.invariant.2 (omega arith)),
