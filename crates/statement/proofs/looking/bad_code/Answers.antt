@@ -1,15 +1,8 @@
 -- With reasons the eight bytes are at most the last code; without them there is nothing to look at. Assumes nothing.
 use mathlib.Core.Path.{◌∙◌, ap}
-use native.Mathlib.Omega.{arith}
 use lib.Dec.{ltb}
-use Rattle.statement.proofs.Heads.{code_with, code_without, width_with}
+use Rattle.statement.proofs.Heads.{code_with, code_without}
 use Rattle.statement.proofs.looking.bad_code.Goals as goal
-
-pub overflow_add-at : goal.overflow_add-at
-overflow_add-at c = omega (arith, width_with c.args.reasons c.if-reasons.true, c.requires)
-
-pub eight_at-requires : goal.eight_at-requires
-eight_at-requires c = omega (arith, width_with c.args.reasons c.if-reasons.true, c.requires)
 
 pub returns-then-reasons : goal.returns-then-reasons
 returns-then-reasons c = let a = c.args in

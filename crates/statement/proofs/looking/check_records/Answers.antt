@@ -4,21 +4,18 @@ use native.Mathlib.Omega.{arith}
 use borrow.Author.Rules.{rules}
 use mathlib.Core.Bool.{false}
 use Prim.Native.Nat.{ℕ, ◌+◌}
-use borrow.Author.Tests.{ne_eqb, eq-eqb}
-use lib.IntN.{ℤ}
 use lib.ListN.{length}
 use mir.Syntax.{w64}
 use mir.Val.{to_z, of_z}
 use Rattle.whole.proofs.Laws.{read_back}
-use Rattle.statement.specs.Bytes.{word_of}
-use Rattle.statement.specs.Files.{record_width, total_of}
+use Rattle.statement.specs.Files.{record_width}
 use Rattle.statement.specs.Writing.{any_of}
 use Rattle.statement.specs.Reading.{record_place, agreed_in, bad_record, coefficient_at, coefficients_in}
 use Rattle.statement.specs.Parts.{Few}
 use Rattle.statement.proofs.ReadBack.{number_below}
 use Rattle.statement.proofs.Any.{none_yet, still_none, found}
 use Rattle.statement.proofs.Totals.{total_none, sum_fits, sum_more}
-use Rattle.statement.proofs.Walk.{record_inside, read_inside, walk_start, walk_on}
+use Rattle.statement.proofs.Walk.{record_inside, walk_start, walk_on}
 use Rattle.statement.proofs.Accepted.{all_small}
 use Rattle.statement.proofs.looking.check_records.Goals as goal
 
@@ -41,12 +38,6 @@ returns-then-bad_record c =
     let at = c.loop-i in
     rw (found (λ k. bad_record a.reasons a.bytes.now (agreed_in a.bytes.now a.first) (record_place (record_width a.reasons) a.first k)) a.count at.i (omega arith) (sym looked ∙ c.if-bad_record.true))
 
-pub coefficient_at-requires : goal.coefficient_at-requires
-coefficient_at-requires c = let start = c in
-    let a = start.args in
-    let at = c.loop-i in
-    read_inside a.reasons (length a.bytes.now) a.first a.count start.requires at.i at.at at.invariant.1 c.loop-i-test.true
-
 pub add-sum-requires : goal.add-sum-requires
 add-sum-requires c =
     let looked : c.bad_record.result ≡ bad_record c.args.reasons c.args.bytes.now (agreed_in c.args.bytes.now c.args.first) (record_place (record_width c.args.reasons) c.args.first c.loop-i.i) = c.bad_record.ensures ∙ ap₂ (bad_record c.args.reasons c.args.bytes.now) c.number_at-agreed.ensures c.loop-i.invariant.1 in
@@ -62,12 +53,6 @@ add-sum-requires c =
     let a = c.args in
     let at = c.loop-i in
     sum_fits (coefficients_in a.bytes.now (record_width a.reasons) a.first) (at.i + 1) small at.i _ at.invariant.3 (omega arith) _ read
-
-pub overflow_add-at : goal.overflow_add-at
-overflow_add-at c = let start = c in
-    let a = start.args in
-    let at = c.loop-i in
-    omega (arith, c.width_of-width.ensures, record_inside a.reasons (length a.bytes.now) a.first a.count start.requires at.i at.at at.invariant.1 c.loop-i-test.true)
 
 pub loop-i-preserved : goal.loop-i-preserved
 loop-i-preserved c =
@@ -88,37 +73,3 @@ loop-i-preserved c =
       still,
       sum_more (coefficients_in a.bytes.now (record_width a.reasons) a.first) (at.i + 1) small at.i _ at.invariant.3 (omega arith) _ read c.add-sum.result c.add-sum.ensures,
     )
-
-pub returns-then-word_of-word : goal.returns-then-word_of-word
-returns-then-word_of-word c =
-    let none : any_of (λ k. bad_record c.args.reasons c.args.bytes.now (agreed_in c.args.bytes.now c.args.first) (record_place (record_width c.args.reasons) c.args.first k)) c.args.count ≡ false =
-    let a = c.args in
-    let at = c.loop-i in
-    let all : a.count ≡ at.i = omega arith in
-    ap (any_of (λ k. bad_record a.reasons a.bytes.now (agreed_in a.bytes.now a.first) (record_place (record_width a.reasons) a.first k))) all ∙ at.invariant.2 in
-    let word : c.word_of.result ≡ word_of (total_of (coefficients_in c.args.bytes.now (record_width c.args.reasons) c.args.first) c.args.count) =
-    let start = c in
-    let a = start.args in
-    let at = c.loop-i in
-    let all : at.i ≡ a.count = omega arith in
-    let f : ℕ → ℤ = (coefficients_in a.bytes.now (record_width a.reasons) a.first) in
-    c.word_of.ensures
-    ∙ ap word_of (at.invariant.3 ∙ ap (total_of f) all) in
-    rw (none, ne_eqb _ _ (λ e. c.if-word_of-word.true (word ∙ e)))
-
-pub returns : goal.returns
-returns c =
-    let none : any_of (λ k. bad_record c.args.reasons c.args.bytes.now (agreed_in c.args.bytes.now c.args.first) (record_place (record_width c.args.reasons) c.args.first k)) c.args.count ≡ false =
-    let a = c.args in
-    let at = c.loop-i in
-    let all : a.count ≡ at.i = omega arith in
-    ap (any_of (λ k. bad_record a.reasons a.bytes.now (agreed_in a.bytes.now a.first) (record_place (record_width a.reasons) a.first k))) all ∙ at.invariant.2 in
-    let word : c.word_of.result ≡ word_of (total_of (coefficients_in c.args.bytes.now (record_width c.args.reasons) c.args.first) c.args.count) =
-    let start = c in
-    let a = start.args in
-    let at = c.loop-i in
-    let all : at.i ≡ a.count = omega arith in
-    let f : ℕ → ℤ = (coefficients_in a.bytes.now (record_width a.reasons) a.first) in
-    c.word_of.ensures
-    ∙ ap word_of (at.invariant.3 ∙ ap (total_of f) all) in
-    rw (none, eq-eqb _ _ (sym word ∙ c.if-word_of-word.false))

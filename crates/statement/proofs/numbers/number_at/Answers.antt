@@ -1,9 +1,8 @@
 -- The bytes passed, from the last one on, hold the number so far. Assumes nothing.
-use mathlib.Core.Path.{◌≡◌, ◌∙◌}
 use borrow.Author.Rules.{rules}
 use native.Mathlib.Omega.{arith}
 use Prim.Native.Nat.{◌+◌, ◌-◌}
-use Rattle.statement.proofs.ReadBack.{none_read, number_step, all_read, number_fits}
+use Rattle.statement.proofs.ReadBack.{none_read, number_step, number_fits}
 use Rattle.statement.proofs.numbers.number_at.Goals as goal
 
 pub loop-i-init : goal.loop-i-init
@@ -25,9 +24,3 @@ loop-i-preserved c = let a = c.args in
       omega arith,
       number_step a.bytes.now a.at at.i a.count at.number c.wide.result (omega arith) at.invariant.0 at.invariant.1 c.wide.ensures,
     )
-
-pub returns : goal.returns
-returns c = let a = c.args in
-    let at = c.loop-i in
-    let none : at.i ≡ 0 = omega arith in
-    at.invariant.1 ∙ all_read a.bytes.now a.at a.count at.i none

@@ -11,9 +11,6 @@ pub returns-then-bytes-lt-TRAILER : goal.returns-then-bytes-lt-TRAILER
 unfolding any_rows version_rows
 returns-then-bytes-lt-TRAILER c = rw (lt-ltb (length c.args.bytes.now) 24 c.if-bytes-lt-TRAILER.true)
 
-pub has_reasons-requires : goal.has_reasons-requires
-has_reasons-requires c = c.if-bytes-lt-TRAILER.false
-
 pub returns : goal.returns
 unfolding any_rows version_rows
 returns c = let bytes = c.args.bytes.now in

@@ -8,7 +8,7 @@ use lib.ListN.{length, get_or}
 use Rattle.whole.specs.Whole.{magnitude_of}
 use Rattle.whole.proofs.Laws.{read_back}
 use Rattle.amount.specs.Amounts.{largest}
-use Rattle.statement.specs.Writing.{any_of, over_at}
+use Rattle.statement.specs.Writing.{over_at}
 use Rattle.statement.proofs.Any.{none_yet, still_none, found}
 use Rattle.statement.proofs.runs.any_over.Goals as goal
 
@@ -32,8 +32,3 @@ loop-i-preserved c =
     let cs = c.args.coefficients.now in
     let at = c.loop-i in
     (omega arith, still_none (over_at cs) at.i at.invariant.1 (le-ltb largest (magnitude_of (get_or cs at.i (pos 0))) (omega (arith, read))))
-
-pub returns : goal.returns
-returns c = let cs = c.args.coefficients.now in
-    let all : c.loop-i.i ≡ length cs = omega arith in
-    sym (ap (any_of (over_at cs)) (sym all) ∙ c.loop-i.invariant.1)
