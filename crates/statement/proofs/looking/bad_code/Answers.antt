@@ -6,7 +6,7 @@ use Rattle.statement.proofs.looking.bad_code.Goals as goal
 
 pub returns-then-reasons : goal.returns-then-reasons
 returns-then-reasons c = let a = c.args in
-    ap (ltb 99) c.eight_at.ensures ∙ code_with a.bytes.now (λ i. (c.shared_slice_known-1.given i).fits) a.at a.reasons c.if-reasons.true
+    ap (ltb 99) c.eight_at.ensures ∙ code_with a.bytes.now (λ i. (c.type_inv.bytes i).fits) a.at a.reasons c.if-reasons.true
 
 pub returns : goal.returns
 returns c = code_without c.args.bytes.now c.args.at c.args.reasons c.if-reasons.false

@@ -11,12 +11,12 @@ loop-i-init c = (search rules, none_read _ _ _)
 pub overflow_mul-number : goal.overflow_mul-number
 overflow_mul-number c = let a = c.args in
     let at = c.loop-i in
-    omega (arith, at.invariant.1, number_fits a.bytes.now (λ i. (c.shared_slice_known-1.given i).fits) (a.at + at.i) (a.count - at.i) (omega arith))
+    omega (arith, at.invariant.1, number_fits a.bytes.now (λ i. (c.type_inv.bytes i).fits) (a.at + at.i) (a.count - at.i) (omega arith))
 
 pub overflow_add-number : goal.overflow_add-number
 overflow_add-number c = let a = c.args in
     let at = c.loop-i in
-    omega (arith, at.invariant.1, c.wide.ensures, c.shared_slice_known-in-loop-i-1.given (a.at + (at.i - 1)), number_fits a.bytes.now (λ i. (c.shared_slice_known-in-loop-i-1.given i).fits) (a.at + at.i) (a.count - at.i) (omega arith))
+    omega (arith, at.invariant.1, c.wide.ensures, c.type_inv.bytes (a.at + (at.i - 1)), number_fits a.bytes.now (λ i. (c.type_inv.bytes i).fits) (a.at + at.i) (a.count - at.i) (omega arith))
 
 pub loop-i-preserved : goal.loop-i-preserved
 loop-i-preserved c = let a = c.args in
