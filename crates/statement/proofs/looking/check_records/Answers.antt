@@ -1,5 +1,5 @@
 -- None of the records passed is bad, and the sum so far is theirs; the walk stands at the next one. Assumes nothing.
-use Rattle.std.proofs.Common.{ℕ, ℤ, ◌≡◌, ◌+◌, ◌<◌, Bool, false, List, length, w64, to_z, of_z, FitsSigned, sym, ap, ap₂, ◌∙◌, arith, rules}
+use Rattle.std.proofs.Common.{ℕ, ℤ, ◌≡◌, ◌+◌, ◌<◌, Bool, false, List, w64, to_z, of_z, sym, ap, ap₂, ◌∙◌, arith, rules}
 use Rattle.whole.proofs.Laws.{read_back}
 use Rattle.statement.specs.Files.{record_width, most_records}
 use Rattle.statement.specs.Writing.{any_of}

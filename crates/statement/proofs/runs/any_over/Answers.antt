@@ -1,5 +1,5 @@
 -- None of the coefficients passed is over L. Assumes nothing.
-use Rattle.std.proofs.Common.{ℕ, ℤ, pos, ◌≡◌, ◌<◌, ◌≤◌, Bool, true, false, List, length, get_or, w64, to_z, of_z, sym, ap, ◌∙◌, arith, rules, lt-ltb, le-ltb}
+use Rattle.std.proofs.Common.{pos, length, get_or, sym, ap, ◌∙◌, arith, rules, lt-ltb, le-ltb}
 use Rattle.whole.specs.Whole.{magnitude_of}
 use Rattle.whole.proofs.Laws.{read_back}
 use Rattle.amount.specs.Amounts.{largest}
