@@ -20,9 +20,6 @@ module _ (out : List ℕ) (at count number : ℕ) where
   abbrev new : List ℕ
   new = little_endian count number
 
-  pub put_start : drop 0 new ≡ little_endian (count - 0) number
-  put_start = let all : count ≡ count - 0 = omega arith in ap (λ (k : ℕ). little_endian k number) all
-
   module _ (i rest : ℕ) (more : i < count) (left : drop i new ≡ little_endian (count - i) rest) where
     split : get_or new i 0 ∷ drop (suc i) new ≡ rest % 256 ∷ little_endian (count - (i + 1)) (rest / 256)
     unfolding little_endian

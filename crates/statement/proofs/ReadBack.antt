@@ -68,13 +68,6 @@ number_step bytes at i count number byte some h is here =
     ∙ ap (λ (k : ℕ). get_or bytes (at + (i - 1)) 0 + 256 * number_at bytes k (count - i)) (sym behind)
     ∙ ap (number_at bytes (at + (i - 1))) more
 
--- all of them
-pub all_read : (bytes : List ℕ) (at count i : ℕ) → i ≡ 0 → number_at bytes (at + i) (count - i) ≡ number_at bytes at count
-all_read bytes at count i none =
-    let here : at + i ≡ at = omega arith in
-    let all : count - i ≡ count = omega arith in
-    ap₂ (number_at bytes) here all
-
 -- and it still fits a word, where there are fewer than eight so far
 pub number_fits : (bytes : List ℕ) → Bytes bytes → (at k : ℕ) → k ≤ 7 → number_at bytes at k < 256 ^ 7
 number_fits bytes b at k h = lt_of_lt_of_le (number_below bytes b at k) (pow-le-pow_right {n = 256} (omega arith) h)

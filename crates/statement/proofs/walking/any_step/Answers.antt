@@ -1,31 +1,13 @@
 -- A record that stands before the trailer is read. Assumes nothing.
-use mathlib.Core.Path.{◌≡◌, sym, ◌∙◌, ap}
-use native.Mathlib.Omega.{arith}
-use Prim.Native.Nat.{ℕ}
-use lib.ListN.{length}
-use Rattle.statement.specs.Files.{record_width}
-use Rattle.statement.proofs.Widths.{narrow}
-use Rattle.statement.proofs.Walk.{goes_on}
-use Rattle.statement.specs.Walking.{ended, any_step}
+use Rattle.std.proofs.Common.{arith}
+use Rattle.std.proofs.lemmas.Grind.{common_steps}
+use Rattle.statement.specs.Walking.{any_step}
 use Rattle.statement.proofs.walking.any_step.Goals as goal
-
-pub is_ended-requires : goal.is_ended-requires
-is_ended-requires c = omega (arith, c.width_of.ensures, narrow c.args.reasons)
 
 pub returns-then-is_ended : goal.returns-then-is_ended
 unfolding any_step
-returns-then-is_ended c =
-    let told : c.is_ended.result ≡ ended (record_width c.args.reasons) (length c.args.bytes.now) c.args.at = c.is_ended.ensures ∙ ap (λ (w : ℕ). ended w (length c.args.bytes.now) c.args.at) c.width_of.ensures in
-    rw (sym told ∙ c.if-is_ended.true)
-
-pub reasoned_at-requires : goal.reasoned_at-requires
-reasoned_at-requires c =
-    let told : c.is_ended.result ≡ ended (record_width c.args.reasons) (length c.args.bytes.now) c.args.at = c.is_ended.ensures ∙ ap (λ (w : ℕ). ended w (length c.args.bytes.now) c.args.at) c.width_of.ensures in
-    let a = c.args in
-    omega (arith, goes_on (record_width a.reasons) (length a.bytes.now) a.at (sym told ∙ c.if-is_ended.false))
+returns-then-is_ended c = grind (arith, common_steps)
 
 pub returns : goal.returns
 unfolding any_step
-returns c =
-    let told : c.is_ended.result ≡ ended (record_width c.args.reasons) (length c.args.bytes.now) c.args.at = c.is_ended.ensures ∙ ap (λ (w : ℕ). ended w (length c.args.bytes.now) c.args.at) c.width_of.ensures in
-    rw (sym told ∙ c.if-is_ended.false, c.reasoned_at.ensures)
+returns c = grind (arith, common_steps)

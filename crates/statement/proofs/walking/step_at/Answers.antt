@@ -1,29 +1,13 @@
 -- A record that stands before the trailer is read, without a code. Assumes nothing.
-use mathlib.Core.Path.{◌≡◌, sym, ◌∙◌, ap}
-use native.Mathlib.Omega.{arith}
-use Prim.Native.Nat.{ℕ}
-use lib.ListN.{length}
-use Rattle.statement.proofs.Walk.{goes_on}
-use Rattle.statement.specs.Walking.{ended, step_at}
+use Rattle.std.proofs.Common.{arith}
+use Rattle.std.proofs.lemmas.Grind.{common_steps}
+use Rattle.statement.specs.Walking.{step_at}
 use Rattle.statement.proofs.walking.step_at.Goals as goal
-
-pub is_ended-requires : goal.is_ended-requires
-is_ended-requires c = omega (arith, c.width_of.ensures)
 
 pub returns-then-is_ended : goal.returns-then-is_ended
 unfolding step_at
-returns-then-is_ended c =
-    let told : c.is_ended.result ≡ ended 16 (length c.args.bytes.now) c.args.at = c.is_ended.ensures ∙ ap (λ (w : ℕ). ended w (length c.args.bytes.now) c.args.at) c.width_of.ensures in
-    rw (sym told ∙ c.if-is_ended.true)
-
-pub reasoned_at-requires : goal.reasoned_at-requires
-reasoned_at-requires c =
-    let told : c.is_ended.result ≡ ended 16 (length c.args.bytes.now) c.args.at = c.is_ended.ensures ∙ ap (λ (w : ℕ). ended w (length c.args.bytes.now) c.args.at) c.width_of.ensures in
-    let a = c.args in
-    omega (arith, goes_on 16 (length a.bytes.now) a.at (sym told ∙ c.if-is_ended.false))
+returns-then-is_ended c = grind (arith, common_steps)
 
 pub returns : goal.returns
 unfolding step_at
-returns c =
-    let told : c.is_ended.result ≡ ended 16 (length c.args.bytes.now) c.args.at = c.is_ended.ensures ∙ ap (λ (w : ℕ). ended w (length c.args.bytes.now) c.args.at) c.width_of.ensures in
-    rw (sym told ∙ c.if-is_ended.false, c.payout_of.ensures, c.reasoned_at.ensures)
+returns c = grind (arith, common_steps)
