@@ -48,20 +48,6 @@ few : (b : Bool) → bool_byte b ≤ 1
 few true = omega arith
 few false = omega arith
 
-pub overflow_add-tests : goal.overflow_add-tests
-overflow_add-tests c = record { fits = omega (arith, few (ltb 0 c.args.rest), few (leb (c.args.d - c.args.rest) c.args.rest)) }
-
-pub overflow_add-tests-2 : goal.overflow_add-tests-2
-overflow_add-tests-2 c = record {
-  fits =
-      omega (
-        arith,
-        few (ltb 0 c.args.rest),
-        few (leb (c.args.d - c.args.rest) c.args.rest),
-        few (ltb (c.args.d - c.args.rest) c.args.rest),
-      );
-}
-
 pub returns-in-0 : goal.returns-in-0
 returns-in-0 c = sym (ap named c.in-0.is) ∙ by_number c.args.rest c.args.d c.requires
 

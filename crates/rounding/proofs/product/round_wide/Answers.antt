@@ -38,9 +38,6 @@ class-rest-requires c =
     let a = c.args in
     omega (arith, known.rest, mod-lt (a.a * a.b) (limits a.a a.b a.d known.limited).2)
 
-pub overflow_add-result-2 : goal.overflow_add-result-2
-overflow_add-result-2 c = fits c.rises.result c.divide-division.result.quotient c.if-quotient-gt-MOST.false
-
 pub returns : goal.returns
 unfolding is_odd
 returns c =
