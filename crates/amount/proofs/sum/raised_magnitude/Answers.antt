@@ -19,15 +19,6 @@ nonzero_div-tens c =
     (is, omega (arith, is, one-le-pow k 10 (omega arith))) in
     tens_are.1
 
-pub overflow_mul-result : goal.overflow_mul-result
-overflow_mul-result c =
-    let tens_are : (c.power_of_ten-tens.result ≡ 10 ^ c.args.places) × (0 < c.power_of_ten-tens.result) =
-    let k = c.args.places in
-    let is = c.power_of_ten-tens.ensures ∙ power_of_ten_lem k (omega arith) in
-    (is, omega (arith, is, one-le-pow k 10 (omega arith))) in
-    let within : c.args.m * c.power_of_ten-tens.result ≤ far = far_within c.args.m c.power_of_ten-tens.result tens_are.1 c.if-tens-m.false in
-    record { fits = omega (arith, within) }
-
 pub returns-then-tens-m : goal.returns-then-tens-m
 returns-then-tens-m c =
     let tens_are : (c.power_of_ten-tens.result ≡ 10 ^ c.args.places) × (0 < c.power_of_ten-tens.result) =

@@ -6,9 +6,6 @@ use lib.ListN.{length-set}
 use Rattle.lines.proofs.Fills.{fill_step, fill_end, Filled-put}
 use Rattle.lines.proofs.texts.fill.Goals as goal
 
-pub loop-i-init : goal.loop-i-init
-loop-i-init c = (omega arith, refl, refl)
-
 pub loop-i-preserved : goal.loop-i-preserved
 loop-i-preserved c = let l = c in
     (omega arith, simp length-set l.loop-i.invariant.1, sym (fill_step l.loop-i.out l.args.at l.loop-i.i l.loop-i.rest c.loop-i-test.true) ∙ l.loop-i.invariant.2)

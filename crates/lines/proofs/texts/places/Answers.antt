@@ -17,11 +17,6 @@ overflow_mul-reach c = let l = c in
     let small : 10 ^ l.loop-reach.count ≤ 10 ^ 18 = pow-le-pow_right {n = 10} (omega arith) {j = 18} (omega arith) in
     omega arith
 
-pub loop-reach-preserved : goal.loop-reach-preserved
-loop-reach-preserved c = let l = c in
-    let e : l.loop-reach.reach * 10 ≡ 10 ^ (l.loop-reach.count + 1) = rw (add-one, pow-suc 10 l.loop-reach.count) (ap (λ (x : ℕ). x * 10) l.loop-reach.invariant.2) in
-    (omega arith, omega arith, e, omega arith)
-
 pub returns : goal.returns
 returns c = let l = c in
     counted l.loop-reach.count l.args.m (omega arith) (omega arith) (omega arith) (omega arith)

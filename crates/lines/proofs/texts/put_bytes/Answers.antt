@@ -17,9 +17,6 @@ pub returns-then-out-at-2 : goal.returns-then-out-at-2
 returns-then-out-at-2 c = let s = c in
     let all = no_room s.args.out.now s.args.at s.args.bytes.now (omega arith) in record { out_after = all.0; value = all.1 }
 
-pub loop-i-init : goal.loop-i-init
-loop-i-init c = let s = c in (omega arith, refl, paste-zero s.args.out.now s.args.at s.args.bytes.now)
-
 pub loop-i-preserved : goal.loop-i-preserved
 loop-i-preserved c = let l = c in
     let s = l in

@@ -16,12 +16,6 @@ pub returns-then-out-at-2 : goal.returns-then-out-at-2
 returns-then-out-at-2 c = let s = c in
     let all = no_room s.args.out.now s.args.at (45 ∷ decimal 20 s.args.m) (omega (arith, c.places-count.ensures)) in record { out_after = all.0; value = all.1 }
 
-pub fill-requires : goal.fill-requires
-fill-requires c = (c.places-count.ensures, simp length-set (omega arith))
-
-pub shape_of-out : goal.shape_of-out
-shape_of-out c = let s = c in omega (arith, length-set s.args.out.now s.args.at 45)
-
 pub returns : goal.returns
 returns c = let s = c in
     let count = c.places-count in

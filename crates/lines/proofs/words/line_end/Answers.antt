@@ -6,9 +6,6 @@ use Rattle.lines.specs.Lines.{is_newline, line_end}
 use Rattle.lines.proofs.Spans.{on, ended, out}
 use Rattle.lines.proofs.words.line_end.Goals as goal
 
-pub loop-i-init : goal.loop-i-init
-loop-i-init c = refl
-
 pub returns-then-text-i-eq10 : goal.returns-then-text-i-eq10
 unfolding line_end
 returns-then-text-i-eq10 c = sym

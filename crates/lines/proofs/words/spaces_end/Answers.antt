@@ -5,9 +5,6 @@ use Rattle.lines.specs.Lines.{is_space}
 use Rattle.lines.proofs.Spans.{on, ended, out}
 use Rattle.lines.proofs.words.spaces_end.Goals as goal
 
-pub loop-i-init : goal.loop-i-init
-loop-i-init c = refl
-
 pub returns-then-line-i-ne32 : goal.returns-then-line-i-ne32
 returns-then-line-i-ne32 c = sym
     (c.loop-i.invariant
