@@ -9,26 +9,14 @@ use Rattle.refusal.specs.Rows.{check_of}
 use Rattle.whole.specs.Whole.{negative, magnitude_of}
 use Rattle.amount.specs.declared.Amount.{Amount}
 use Rattle.compound.specs.Table.{row_count, taken_rows}
-use Rattle.compound.specs.Parts.{Grows, Writes}
-use Rattle.compound.proofs.Answered.{taken, answers_refused, answers_written, fits}
+use Rattle.compound.specs.Parts.{Writes}
+use Rattle.compound.proofs.Answered.{taken, answers_refused, answers_written}
 use Rattle.compound.proofs.compound.Goals as goal
 
 -- The rows that were asked, of the principal's sign and magnitude, are the principal's.
 asked : (principal : Amount) (rate periods : ℕ) (out : List ℤ) (s : Bool) (m : ℕ) → s ≡ negative principal.coefficient → m ≡ magnitude_of principal.coefficient → check_of (taken_rows principal.scale m principal.currency s rate periods (length out)) ≡ check_of (taken principal rate periods out)
 asked principal rate periods out s m e f =
     ap₂ (λ (s : Bool) (m : ℕ). check_of (taken_rows principal.scale m principal.currency s rate periods (length out))) e f
-
-pub write-requires : goal.write-requires
-write-requires c =
-    let a = c.args in
-    let of_sign : c.is_negative-negative.result ≡ negative a.principal.coefficient = search rules in
-    let of_m : c.magnitude-m.result ≡ magnitude_of a.principal.coefficient = search rules in
-    let checked = c.check.ensures ∙ asked a.principal a.rate a.periods a.out.now _ _ of_sign of_m in
-    let fit = fits a.principal a.rate a.periods a.out.now (sym checked ∙ c.in-Passed.is) in record {
-      grows = subst (λ (m : ℕ). Grows m a.rate) (sym of_m) fit.0;
-      periods_le_most_periods = fit.1.0;
-      periods_in_bounds = fit.1.1;
-    }
 
 pub returns-in-Refused : goal.returns-in-Refused
 returns-in-Refused c =

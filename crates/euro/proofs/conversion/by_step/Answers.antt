@@ -10,19 +10,6 @@ use Rattle.amount.specs.declared.Amount.{Amount}
 use Rattle.euro.specs.Conversion.{convert_rows, converted, convert_by_said}
 use Rattle.euro.proofs.conversion.by_step.Goals as goal
 
-pub accepted-requires : goal.accepted-requires
-accepted-requires c =
-    let asked : let a = c.args in c.check.result ≡ check_of (convert_rows a.decimals a.scale (magnitude_of a.coefficient) a.from a.to) =
-    let s = c in
-    let a = s.args in
-    c.check.ensures
-    ∙ ap (λ (m : ℕ). check_of (convert_rows a.decimals a.scale m a.from a.to))
-    (c.magnitude.ensures ∙ ap magnitude_of (read_back a.coefficient s.ranges.coefficient.sfits)) in
-    let s = c in
-    let a = s.args in
-    ap (λ (z : ℤ). check_of (convert_rows a.decimals a.scale (magnitude_of z) a.from a.to)) (read_back a.coefficient s.ranges.coefficient.sfits)
-    ∙ sym asked ∙ c.in-Passed.is
-
 pub returns-in-Refused : goal.returns-in-Refused
 unfolding convert_by_said
 returns-in-Refused c =

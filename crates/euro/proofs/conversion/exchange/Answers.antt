@@ -13,7 +13,7 @@ use Rattle.amount.specs.Amounts.{largest}
 use Rattle.euro.specs.Conversion.{settled, exchanged}
 use Rattle.euro.specs.Through.{decimals_of, into_euro, out_of_euro}
 use Rattle.euro.proofs.Settled.{capped_least, over, same, settles}
-use Rattle.euro.proofs.Through.{onward, through, into_sign, out_sign, few_decimals}
+use Rattle.euro.proofs.Through.{onward, through, into_sign, out_sign}
 use Rattle.euro.proofs.conversion.exchange.Goals as goal
 
 -- The number in euro as it was computed, of an amount's magnitude.
@@ -30,11 +30,6 @@ within decimals to z h = sym (rw (le-ltb largest (magnitude_of z) (subst (λ (n 
 exchanges : (decimals : ℕ) (from to : Currency) (negative : Bool) (m : ℕ) → m ≤ largest → (from.0 ≡ to.0 → ⊥) → onward (decimals_of decimals from to) to (into_euro (decimals_of decimals from to) from (signed_of negative m)) ≡ exchanged decimals from to (signed_of negative m)
 exchanges decimals from to negative m h ne = through decimals from to (signed_of negative m) (omega (arith, magnitude_signed negative m, h)) ne
 
-pub into_euro-step-requires : goal.into_euro-step-requires
-into_euro-step-requires c =
-    let few = few_decimals c.args.decimals c.args.from c.args.to c.requires.0 in
-    (c.requires.1, omega (arith, few, c.step_decimals-places.ensures), c.requires.3)
-
 pub returns-then-step-gt-L : goal.returns-then-step-gt-L
 returns-then-step-gt-L c =
     let a = c.args in
@@ -42,11 +37,6 @@ returns-then-step-gt-L c =
     let is = computed places _ a.from (signed_of a.negative a.m) _ c.into_euro-step.ensures c.step_decimals-places.ensures in
     over_limit places a.to (into_euro places a.from (signed_of a.negative a.m)) (subst (λ (n : ℕ). largest < n) is c.if-step-gt-L.true)
     ∙ exchanges a.decimals a.from a.to a.negative a.m c.requires.3 c.requires.4
-
-pub out_of_euro-requires : goal.out_of_euro-requires
-out_of_euro-requires c =
-    let few = few_decimals c.args.decimals c.args.from c.args.to c.requires.0 in
-    (c.requires.2, omega (arith, few, c.step_decimals-places.ensures), c.if-step-gt-L.false)
 
 pub settle-requires : goal.settle-requires
 settle-requires c = rw c.out_of_euro.ensures (capped_least _)

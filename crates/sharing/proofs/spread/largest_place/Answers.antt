@@ -4,7 +4,6 @@ use Prim.Native.Nat.{ℕ}
 use native.Mathlib.Omega.{arith}
 use borrow.Author.Rules.{rules}
 use lib.ListN.{get_or}
-use Rattle.remainder.specs.Rule.{largest}
 use Rattle.remainder.proofs.Largest.{scan_start, scan_larger, scan_past}
 use Rattle.sharing.proofs.spread.largest_place.Goals as goal
 use Rattle.sharing.proofs.spread.largest_place.Goals.{then-top-rests, else-top-rests}
@@ -28,6 +27,3 @@ loop-i-preserved c =
         w.top-is ∙ at.invariant.2 ∙ ap (λ (p : ℕ). get_or rests p 0) (sym w.place-is),
       )
     ]
-
-pub returns : goal.returns
-returns c = let rests = c.args.rests.now in c.loop-i.invariant.1 ∙ ap (largest rests) (omega arith)

@@ -1,32 +1,16 @@
 -- The place, its weight and one more than it holds are those of the highest average among the places passed; both products have two factors of
 -- 32 bits. Assumes nothing.
 use mathlib.Core.Path.{refl, sym, ◌∙◌, ap}
-use Prim.Native.Nat.{ℕ, ◌+◌, ◌≤◌}
-use native.Mathlib.Nat.{mul-le-mul}
+use Prim.Native.Nat.{ℕ, ◌+◌}
 use native.Mathlib.Omega.{arith}
 use borrow.Author.Rules.{rules}
 use lib.ListN.{get_or}
-use Rattle.average.specs.Rule.{highest}
 use Rattle.average.proofs.Highest.{scan_start, scan_higher, scan_past}
 use Rattle.vouchers.proofs.giving.highest_place.Goals as goal
 use Rattle.vouchers.proofs.giving.highest_place.Goals.{then-weight-after, else-weight-after}
 
 pub loop-i-init : goal.loop-i-init
 loop-i-init c = (search rules, sym (scan_start _ _), refl, refl)
-
-pub overflow_mul-weight : goal.overflow_mul-weight
-overflow_mul-weight c =
-    let at = c.loop-i in
-    let weight : at.weight ≤ 4294967295 = omega (arith, c.type_inv.weights at.place) in
-    let after : get_or c.args.held.now at.i 0 + 1 ≤ 4294967296 = omega (arith, c.type_inv.held at.i) in
-    omega (arith, mul-le-mul weight after)
-
-pub overflow_mul-own : goal.overflow_mul-own
-overflow_mul-own c =
-    let at = c.loop-i in
-    let own : get_or c.args.weights.now at.i 0 ≤ 4294967295 = omega (arith, c.type_inv.weights at.i) in
-    let next : at.next ≤ 4294967296 = omega (arith, c.type_inv.held at.place) in
-    omega (arith, mul-le-mul own next)
 
 pub loop-i-preserved : goal.loop-i-preserved
 loop-i-preserved c =
@@ -47,7 +31,3 @@ loop-i-preserved c =
         w.next-is ∙ at.invariant.3 ∙ ap (λ (p : ℕ). get_or held p 0 + 1) (sym w.place-is),
       )
     ]
-
-pub returns : goal.returns
-returns c = let a = c.args in
-    c.loop-i.invariant.1 ∙ ap (highest a.weights.now a.held.now) (omega arith)
