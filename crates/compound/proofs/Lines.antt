@@ -1,6 +1,5 @@
 -- Tables by computing both sides: at the edge of L on both sides, and interest at the half. Assumes nothing.
 use mathlib.Core.Path.{◌≡◌, refl}
-use mathlib.Core.Bool.{◌||◌}
 use Prim.Native.Nat.{ℕ, ◌+◌, ◌*◌, ◌/◌}
 use lib.IntN.{pos}
 use Rattle.refusal.specs.Rows.{gives, refuses}

@@ -1,5 +1,5 @@
 -- What the functions below `compound` hand each other. No public promise cites it. Assumes nothing.
-use Rattle.std.specs.Prelude.{◌≡◌, List, ℕ, ◌≤◌, ◌<◌, ℤ, pos, length, get_or}
+use Rattle.std.specs.Prelude.{◌≡◌, List, ℕ, ◌≤◌, ◌<◌, ℤ, length, get_or}
 use Rattle.refusal.specs.declared.Checked.{Checked}
 use Rattle.refusal.specs.declared.Checked.TheVariants.{Passed}
 use Rattle.refusal.specs.Rows.{check_of, means_outcome}

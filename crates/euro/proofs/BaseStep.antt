@@ -1,6 +1,6 @@
 -- Document 01's conversion has document 01's rows: the step of 3 decimals is one of those that may be chosen, so that neither row of the step ever
 -- holds for it. Assumes nothing.
-use mathlib.Core.Path.{◌≡◌, refl, ap}
+use mathlib.Core.Path.{◌≡◌, refl}
 use mathlib.Core.Bool.{Bool, true, false}
 use mathlib.Core.List.{List, [], ◌∷◌}
 use Prim.Native.Nat.{ℕ}

@@ -3,22 +3,21 @@
 use mathlib.Core.Path.{◌≡◌, refl, sym, ◌∙◌, ap}
 use mathlib.Core.Bool.{Bool, true, false, cond}
 use mathlib.Core.List.{[], ◌∷◌}
-use Prim.Native.Nat.{ℕ, ◌<◌, ◌≤◌}
+use Prim.Native.Nat.{ℕ, ◌≤◌}
 use native.Mathlib.Omega.{arith}
-use borrow.Author.Tests.{lt-ltb, le-ltb, eqb-true, eq-eqb, ne_eqb}
+use borrow.Author.Tests.{le-ltb, eqb-true}
 use lib.IntN.{ℤ}
-use Rattle.refusal.specs.Rows.{Said, refuses, row, first_row}
+use Rattle.refusal.specs.Rows.{Said, row, first_row}
 use Rattle.refusal.specs.declared.Refusal.TheVariants.{Limit}
 use Rattle.whole.specs.Whole.{magnitude_of, signed_of}
 use Rattle.whole.proofs.Laws.{magnitude_signed}
-use Rattle.rounding.specs.Product.{capped}
 use Rattle.currency.specs.declared.Currency.{Currency}
 use Rattle.currency.specs.Table.{line_of, same}
 use Rattle.currency.specs.Names.{EUR}
 use Rattle.amount.specs.declared.Amount.{Amount}
 use Rattle.amount.specs.Amounts.{largest, over_l}
 use Rattle.euro.specs.Steps.{to_euro, from_euro, cents, most_decimals}
-use Rattle.euro.specs.Conversion.{settled, through_euro, exchanged}
+use Rattle.euro.specs.Conversion.{settled, exchanged}
 use Rattle.euro.specs.Through.{decimals_of, into_euro, out_of_euro}
 use Rattle.euro.proofs.Magnitudes.{to_euro_sign, from_euro_sign}
 

@@ -1,5 +1,5 @@
 -- Document 01, "Tax in and out of a price". Cited by `tax_from_net`, `tax_from_gross` and `net_for_gross`. Assumes nothing.
-use Rattle.std.specs.Prelude.{Bool, List, [], ◌∷◌, ◌++◌, ℕ, ◌+◌, ℤ, pos, ◌+ℤ◌, ◌-ℤ◌, ◌*ℤ◌}
+use Rattle.std.specs.Prelude.{List, [], ◌∷◌, ◌++◌, ℕ, ◌+◌, ℤ, pos, ◌+ℤ◌, ◌-ℤ◌, ◌*ℤ◌}
 use Rattle.refusal.specs.Number.{number_of, blamed_of}
 use Rattle.refusal.specs.Rows.{Said, gives, refuses, Row, row, first_row, rate_rows}
 use Rattle.refusal.specs.declared.Refusal.TheVariants.{Mode, Limit}

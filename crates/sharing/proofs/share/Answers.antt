@@ -8,7 +8,6 @@ use lib.ListN.{length}
 use mir.Syntax.{w64}
 use mir.Val.{SFits}
 use mir.ValLaws.{to_z-of_z}
-use Rattle.refusal.specs.declared.Checked.{Checked}
 use Rattle.refusal.specs.Rows.{check_of}
 use Rattle.whole.specs.Whole.{negative, magnitude_of}
 use Rattle.amount.specs.Amounts.{amount_rows}

@@ -1,10 +1,8 @@
 -- A refused check leaves the output as it stood; what passed lends as many places of it as there are weights, and puts the vouchers there.
 -- Assumes nothing.
-use mathlib.Core.Path.{◌≡◌, sym, ◌∙◌, ap}
+use mathlib.Core.Path.{◌≡◌, sym, ◌∙◌}
 use mathlib.Core.List.{List, ◌++◌}
 use Prim.Native.Nat.{ℕ, ◌≤◌}
-use native.Mathlib.Omega.{arith}
-use borrow.Author.Rules.{rules}
 use lib.ListN.{length, drop}
 use lib.Seq.{length-take-le}
 use Rattle.weights.specs.Weights.{Allowed}

@@ -1,25 +1,16 @@
 -- The places passed hold the balances, which an i64 holds; the others stand as they did. Assumes nothing.
-use mathlib.Core.Path.{◌≡◌, ◌∙◌, ap}
+use mathlib.Core.Path.{◌∙◌}
 use mathlib.Core.Bool.{false}
-use Prim.Native.Nat.{ℕ, ◌-◌, ◌≤◌}
 use native.Mathlib.Omega.{arith}
 use borrow.Author.Rules.{rules}
 use lib.IntN.{pos}
-use lib.ListN.{length, get_or}
-use Rattle.whole.specs.Lists.{filled}
+use lib.ListN.{get_or}
 use Rattle.whole.proofs.Laws.{read_back, held_within}
-use Rattle.whole.proofs.Lists.{fill_none, fill_more, length_filled}
+use Rattle.whole.proofs.Lists.{fill_none, fill_more}
 use Rattle.compound.proofs.table.copy.Goals as goal
 
 pub loop-i-init : goal.loop-i-init
 loop-i-init c = (search rules, fill_none 0 _ _)
-
-pub bounds-out-i : goal.bounds-out-i
-bounds-out-i c =
-    let long : length c.loop-i.out ≡ length c.args.out.now =
-    let a = c.args in
-    ap length c.loop-i.invariant.1 ∙ length_filled 0 (λ n. pos (get_or a.rows.now n 0)) a.out.now c.loop-i.i in
-    omega (arith, long)
 
 pub loop-i-preserved : goal.loop-i-preserved
 loop-i-preserved c = let start = c in
@@ -31,15 +22,3 @@ loop-i-preserved c = let start = c in
       omega arith,
       fill_more 0 (λ n. pos (get_or a.rows.now n 0)) a.out.now at.out at.i at.i _ at.invariant.1 (omega arith) is,
     )
-
-pub shape_of-out : goal.shape_of-out
-shape_of-out c =
-    let long : length c.loop-i.out ≡ length c.args.out.now =
-    let a = c.args in
-    ap length c.loop-i.invariant.1 ∙ length_filled 0 (λ n. pos (get_or a.rows.now n 0)) a.out.now c.loop-i.i in
-    long
-
-pub returns : goal.returns
-returns c = let a = c.args in
-    let at = c.loop-i in
-    at.invariant.1 ∙ ap (λ (n : ℕ). filled 0 (λ n. pos (get_or a.rows.now n 0)) n a.out.now) (omega arith)

@@ -1,14 +1,9 @@
 -- The places passed hold the balances, which an i64 holds; the others stand as they did. Assumes nothing.
-use mathlib.Core.Path.{◌≡◌, ◌∙◌, ap}
-use mathlib.Core.Bool.{false}
-use Prim.Native.Nat.{ℕ, ◌-◌, ◌≤◌}
-use native.Mathlib.Omega.{arith}
-use borrow.Author.Rules.{rules}
+use mathlib.Core.Path.{◌≡◌}
+use Prim.Native.Nat.{◌-◌, ◌≤◌}
 use lib.IntN.{pos}
 use lib.ListN.{length, get_or}
 use Rattle.whole.specs.Lists.{filled}
-use Rattle.whole.proofs.Laws.{read_back, held_within}
-use Rattle.whole.proofs.Lists.{fill_none, fill_more, length_filled}
 use Rattle.compound.proofs.table.copy.Given as goal
 
 abbrev pub invariant-loop-i : goal.invariant-loop-i

@@ -1,29 +1,19 @@
 -- The places passed hold the rows before this one, none of which is over L. Assumes nothing.
 use mathlib.Core.Path.{◌≡◌, sym, ◌∙◌, ap}
-use mathlib.Core.Bool.{false}
-use Prim.Native.Nat.{ℕ, ◌+◌, ◌-◌, ◌≤◌}
+use Prim.Native.Nat.{ℕ, ◌+◌}
 use native.Mathlib.Omega.{arith}
 use borrow.Author.Rules.{rules}
 use lib.ListN.{length}
-use Rattle.whole.specs.Lists.{filled}
 use Rattle.whole.proofs.Lists.{fill_none, fill_more, length_filled}
 use Rattle.balances.specs.Rule.{interest_on, balance_at}
 use Rattle.balances.proofs.Rows.{first_row_lem, row_behind}
-use Rattle.compound.specs.Table.{any_over}
 use Rattle.compound.proofs.Over.{none_yet, still_none}
-use Rattle.compound.proofs.Filling.{fills_not, fills_all}
+use Rattle.compound.proofs.Filling.{fills_not}
 use Rattle.compound.proofs.table.fill.Goals as goal
 
 pub loop-i-init : goal.loop-i-init
 loop-i-init c = let a = c.args in
     (search rules, sym (first_row_lem a.principal a.rate), none_yet a.principal a.rate, fill_none 0 _ _)
-
-pub shape_of-rows-then-balance-gt-L : goal.shape_of-rows-then-balance-gt-L
-shape_of-rows-then-balance-gt-L c =
-    let long : length c.loop-i.rows ≡ length c.args.rows.now =
-    let a = c.args in
-    ap length c.loop-i.invariant.3 ∙ length_filled 0 (balance_at a.principal a.rate) a.rows.now c.loop-i.i in
-    long
 
 pub returns-then-balance-gt-L : goal.returns-then-balance-gt-L
 returns-then-balance-gt-L c =
@@ -33,23 +23,6 @@ returns-then-balance-gt-L c =
     let a = c.args in
     let at = c.loop-i in
     fills_not a.principal a.rate a.rows.now _ at.i at.balance (omega (arith, long)) at.invariant.1 c.if-balance-gt-L.true
-
-pub bounds-rows-i : goal.bounds-rows-i
-bounds-rows-i c =
-    let long : length c.loop-i.rows ≡ length c.args.rows.now =
-    let a = c.args in
-    ap length c.loop-i.invariant.3 ∙ length_filled 0 (balance_at a.principal a.rate) a.rows.now c.loop-i.i in
-    omega (arith, long)
-
-pub next-balance-requires : goal.next-balance-requires
-next-balance-requires c = let start = c in record { within = c.if-balance-gt-L.false; most = start.requires.most }
-
-pub loop-i-smaller : goal.loop-i-smaller
-loop-i-smaller c =
-    let long : length c.loop-i.rows ≡ length c.args.rows.now =
-    let a = c.args in
-    ap length c.loop-i.invariant.3 ∙ length_filled 0 (balance_at a.principal a.rate) a.rows.now c.loop-i.i in
-    omega (arith, long)
 
 pub loop-i-preserved : goal.loop-i-preserved
 loop-i-preserved c =
@@ -63,19 +36,3 @@ loop-i-preserved c =
       still_none a.principal a.rate at.i at.balance at.invariant.2 at.invariant.1 c.if-balance-gt-L.false,
       fill_more 0 (balance_at a.principal a.rate) a.rows.now at.rows at.i at.i _ at.invariant.3 (omega arith) at.invariant.1,
     )
-
-pub shape_of-rows : goal.shape_of-rows
-shape_of-rows c =
-    let long : length c.loop-i.rows ≡ length c.args.rows.now =
-    let a = c.args in
-    ap length c.loop-i.invariant.3 ∙ length_filled 0 (balance_at a.principal a.rate) a.rows.now c.loop-i.i in
-    long
-
-pub returns : goal.returns
-returns c =
-    let long : length c.loop-i.rows ≡ length c.args.rows.now =
-    let a = c.args in
-    ap length c.loop-i.invariant.3 ∙ length_filled 0 (balance_at a.principal a.rate) a.rows.now c.loop-i.i in
-    let a = c.args in
-    let at = c.loop-i in
-    fills_all a.principal a.rate a.rows.now at.rows at.i (omega (arith, long)) at.invariant.2 at.invariant.3

@@ -1,17 +1,11 @@
 -- The places passed hold the rows before this one, none of which is over L. Assumes nothing.
-use mathlib.Core.Path.{◌≡◌, sym, ◌∙◌, ap}
+use mathlib.Core.Path.{◌≡◌}
 use mathlib.Core.Bool.{false}
-use Prim.Native.Nat.{ℕ, ◌+◌, ◌-◌, ◌≤◌}
-use native.Mathlib.Omega.{arith}
-use borrow.Author.Rules.{rules}
+use Prim.Native.Nat.{◌-◌, ◌≤◌}
 use lib.ListN.{length}
 use Rattle.whole.specs.Lists.{filled}
-use Rattle.whole.proofs.Lists.{fill_none, fill_more, length_filled}
-use Rattle.balances.specs.Rule.{interest_on, balance_at}
-use Rattle.balances.proofs.Rows.{first_row_lem, row_behind}
+use Rattle.balances.specs.Rule.{balance_at}
 use Rattle.compound.specs.Table.{any_over}
-use Rattle.compound.proofs.Over.{none_yet, still_none}
-use Rattle.compound.proofs.Filling.{fills_not, fills_all}
 use Rattle.compound.proofs.table.fill.Given as goal
 
 abbrev pub invariant-loop-i : goal.invariant-loop-i

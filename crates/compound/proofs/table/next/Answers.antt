@@ -1,14 +1,10 @@
 -- A balance within L times a rate within its limit fits, and the interest is at most the balance. Assumes nothing.
 use mathlib.Core.Path.{◌≡◌}
-use native.Mathlib.Nat.{mul-le-mul}
 use native.Mathlib.Omega.{arith}
 use borrow.Author.Rules.{rules}
 use Rattle.balances.specs.Rule.{interest_on}
 use Rattle.balances.proofs.Rows.{interest_at_most}
 use Rattle.compound.proofs.table.next.Goals as goal
-
-pub overflow_mul-balance : goal.overflow_mul-balance
-overflow_mul-balance c = omega (arith, mul-le-mul c.requires.within c.requires.most)
 
 pub overflow_add-result : goal.overflow_add-result
 unfolding interest_on

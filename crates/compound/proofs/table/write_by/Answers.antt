@@ -1,5 +1,4 @@
 -- Where a row is over L nothing is copied; else all rows are within L, and the copy is the table. Assumes nothing.
-use borrow.Author.Rules.{rules}
 use lib.ListN.{length}
 use Rattle.compound.proofs.Filling.{writes_not, ready, writes_all}
 use Rattle.compound.proofs.table.write_by.Goals as goal

@@ -1,6 +1,5 @@
 -- One more than L, or the number itself. Assumes nothing.
 use mathlib.Core.Path.{sym}
-use borrow.Author.Rules.{rules}
 use Rattle.doubles.proofs.Columns.{capped_over, capped_within}
 use Rattle.doubles.proofs.column.cap.Goals as goal
 

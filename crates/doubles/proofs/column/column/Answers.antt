@@ -2,7 +2,6 @@
 use mathlib.Core.Path.{◌≡◌, sym, ◌∙◌, ap}
 use Prim.Native.Nat.{ℕ, ◌-◌, ◌*◌, ◌^◌, ◌<◌}
 use native.Mathlib.Omega.{arith}
-use borrow.Author.Rules.{rules}
 use Rattle.currency.proofs.Tables.{power_of_ten_lem}
 use Rattle.doubles.specs.Parts.{field_of, digits_of, mantissa_of, capped}
 use Rattle.doubles.proofs.Fields.{last_field}

@@ -1,22 +1,16 @@
 -- The coefficient and the power of ten are whole numbers that a double holds, so that both casts are defined; the division is the definition's. Assumes nothing.
-use mathlib.Core.Path.{◌≡◌, sym, ◌∙◌, ap₂, subst}
+use mathlib.Core.Path.{◌≡◌, ◌∙◌, ap₂}
 use Prim.Native.Nat.{ℕ, ◌^◌}
 use native.Mathlib.Omega.{arith}
-use borrow.Author.Rules.{rules}
-use lib.Dec.{T}
 use lib.IntN.{ℤ, pos}
-use lib.Ieee.{binary64, of_int, in_float, div}
+use lib.Ieee.{binary64, of_int, div}
 use mir.Syntax.{w64}
 use mir.ValLaws.{to_z-of_z}
 use Rattle.currency.proofs.Tables.{power_of_ten_lem}
 use Rattle.doubles.specs.Export.{exported}
 use Rattle.doubles.proofs.Columns.{ten_fits}
-use Rattle.doubles.proofs.Division.{coefficient_in, divisor_in}
+use Rattle.doubles.proofs.Division.{divisor_in}
 use Rattle.doubles.proofs.exports.quotient.Goals as goal
-
-pub int_to_float-result : goal.int_to_float-result
-int_to_float-result c = let s = c in
-    subst (λ (z : ℤ). T (in_float binary64 z)) (sym (to_z-of_z w64 s.args.coefficient s.ranges.coefficient)) (coefficient_in s.args.coefficient s.requires.0)
 
 pub int_to_float-result-2 : goal.int_to_float-result-2
 int_to_float-result-2 c =

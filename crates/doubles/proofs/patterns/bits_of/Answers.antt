@@ -1,6 +1,5 @@
 -- Only what is no number differs from itself. Assumes nothing.
 use mathlib.Core.Path.{sym, subst}
-use borrow.Author.Rules.{rules}
 use lib.Dec.{T}
 use lib.Ieee.Compare.{differs_from_itself}
 use Rattle.doubles.proofs.NoNumber.{no_number_pattern, differs_not}

@@ -1,5 +1,4 @@
 -- With the sign's bit taken off, the pattern of what is no number is above the infinity's. Assumes nothing.
-use borrow.Author.Rules.{rules}
 use Rattle.doubles.proofs.NoNumber.{above_infinity, up_to_infinity}
 use Rattle.doubles.proofs.patterns.of_bits.Goals as goal
 

@@ -1,7 +1,6 @@
 -- What passed the check is within the limits of the steps, and the amount's coefficient is its sign and its magnitude. Assumes nothing.
 use mathlib.Core.Path.{◌≡◌, sym, ◌∙◌, ap, ap₂}
 use Prim.Native.Nat.{ℕ, ◌≤◌}
-use borrow.Author.Rules.{rules}
 use borrow.Author.Tests.{eq-eqb, ne_eqb, ltb-false}
 use lib.IntN.{ℤ}
 use Rattle.refusal.specs.declared.Checked.TheVariants.{Passed}

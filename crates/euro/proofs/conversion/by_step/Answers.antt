@@ -1,7 +1,6 @@
 -- A refused check is the row that it names, and what passed is the amount converted. Assumes nothing.
 use mathlib.Core.Path.{◌≡◌, sym, ◌∙◌, ap}
 use Prim.Native.Nat.{ℕ}
-use borrow.Author.Rules.{rules}
 use lib.IntN.{ℤ}
 use Rattle.refusal.specs.Rows.{check_of}
 use Rattle.refusal.proofs.Check.{passed, refused}
@@ -10,19 +9,6 @@ use Rattle.whole.proofs.Laws.{read_back}
 use Rattle.amount.specs.declared.Amount.{Amount}
 use Rattle.euro.specs.Conversion.{convert_rows, converted, convert_by_said}
 use Rattle.euro.proofs.conversion.by_step.Goals as goal
-
-pub accepted-requires : goal.accepted-requires
-accepted-requires c =
-    let asked : let a = c.args in c.check.result ≡ check_of (convert_rows a.decimals a.scale (magnitude_of a.coefficient) a.from a.to) =
-    let s = c in
-    let a = s.args in
-    c.check.ensures
-    ∙ ap (λ (m : ℕ). check_of (convert_rows a.decimals a.scale m a.from a.to))
-    (c.magnitude.ensures ∙ ap magnitude_of (read_back a.coefficient s.ranges.coefficient.sfits)) in
-    let s = c in
-    let a = s.args in
-    ap (λ (z : ℤ). check_of (convert_rows a.decimals a.scale (magnitude_of z) a.from a.to)) (read_back a.coefficient s.ranges.coefficient.sfits)
-    ∙ sym asked ∙ c.in-Passed.is
 
 pub returns-in-Refused : goal.returns-in-Refused
 unfolding convert_by_said

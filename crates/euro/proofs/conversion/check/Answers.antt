@@ -1,6 +1,5 @@
 -- Each test of the check is its row's. Assumes nothing.
 use mathlib.Core.Path.{sym, ◌∙◌}
-use borrow.Author.Rules.{rules}
 use borrow.Author.Tests.{lt-ltb, le-ltb}
 use Rattle.euro.specs.Conversion.{convert_rows}
 use Rattle.euro.proofs.conversion.check.Goals as goal

@@ -1,5 +1,5 @@
 -- Document 01's step is the one of 3 decimals; the amount's numbers, handed on, are the amount. Assumes nothing.
-use mathlib.Core.Path.{◌≡◌, ◌∙◌, ap}
+use mathlib.Core.Path.{◌∙◌, ap}
 use borrow.Author.Rules.{rules}
 use lib.IntN.{ℤ}
 use mir.Syntax.{w64}

@@ -3,7 +3,6 @@ use mathlib.Core.Path.{◌∙◌, ap, ap₂}
 use mathlib.Core.Bool.{false}
 use Prim.Native.Nat.{ℕ, ◌+◌, ◌*◌, ◌≤◌, ◌^◌}
 use native.Mathlib.Omega.{arith}
-use borrow.Author.Rules.{rules}
 use Rattle.whole.specs.Whole.{magnitude_of, signed_of}
 use Rattle.rounding.specs.declared.Rule.TheVariants.{HalfUp}
 use Rattle.rounding.specs.Product.{capped, rounded_product}

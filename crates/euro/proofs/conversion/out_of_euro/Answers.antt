@@ -1,9 +1,7 @@
 -- The number in euro is the euro amount itself, and an old unit's is the step's. Assumes nothing.
-use mathlib.Core.Path.{◌≡◌, sym, ◌∙◌, ap}
+use mathlib.Core.Path.{sym, ◌∙◌, ap}
 use native.Mathlib.Omega.{arith}
-use borrow.Author.Rules.{rules}
-use borrow.Author.Tests.{eq-eqb, ne_eqb}
-use Rattle.whole.specs.Whole.{magnitude_of, signed_of}
+use borrow.Author.Tests.{eq-eqb}
 use Rattle.whole.proofs.Laws.{magnitude_signed}
 use Rattle.rounding.specs.Product.{capped}
 use Rattle.rounding.proofs.Capped.{capped_is}
@@ -16,7 +14,3 @@ returns-then-to-eq-EURO c = let s = c in
     sym
     (rw (eq-eqb a.to.0 EUR.0 c.if-to-eq-EURO.true)
     (ap capped (magnitude_signed a.negative a.m) ∙ capped_is a.m (omega (arith, s.requires.2))))
-
-pub returns : goal.returns
-returns c = let a = c.args in
-    c.from_euro.ensures ∙ sym (rw (ne_eqb a.to.0 EUR.0 c.if-to-eq-EURO.false))

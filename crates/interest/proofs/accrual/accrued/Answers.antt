@@ -2,24 +2,12 @@
 -- sign. Assumes nothing.
 use mathlib.Core.Path.{◌∙◌, ap}
 use Prim.Native.Nat.{ℕ, ◌*◌}
-use native.Mathlib.Omega.{arith}
-use borrow.Author.Rules.{rules}
 use Rattle.whole.specs.Whole.{held_signed}
 use Rattle.whole.proofs.Laws.{read_back}
 use Rattle.rounding.specs.Product.{rounded_product}
 use Rattle.interest.specs.Accrual.{accrued_to}
-use Rattle.calendar.proofs.Bases.{year_within}
-use Rattle.interest.proofs.Accrued.{points_fit, leaf, held}
+use Rattle.interest.proofs.Accrued.{leaf, held}
 use Rattle.interest.proofs.accrual.accrued.Goals as goal
-
-pub overflow_mul-factor : goal.overflow_mul-factor
-overflow_mul-factor c = omega (arith, points_fit c.requires)
-
-pub overflow_mul-year_of : goal.overflow_mul-year_of
-overflow_mul-year_of c = omega (arith, c.year_of.ensures, year_within c.args.basis)
-
-pub overflow_cast-year_of : goal.overflow_cast-year_of
-overflow_cast-year_of c = omega (arith, c.year_of.ensures, year_within c.args.basis)
 
 pub returns : goal.returns
 unfolding accrued_to

@@ -1,6 +1,5 @@
 -- A refused choice of the rule is row 1; behind it stand the other rows and the interest. Assumes nothing.
 use mathlib.Core.Path.{sym, ◌∙◌, ap}
-use borrow.Author.Rules.{rules}
 use Rattle.whole.specs.Whole.{magnitude_of}
 use Rattle.rounding.specs.declared.Rule.{Rule}
 use Rattle.rounding.specs.Modes.{rule_of}

@@ -1,13 +1,11 @@
 -- The places passed hold the shares rounded down and the remainders, and what is left is the magnitude less the shares passed,
 -- whose sum never goes past it. Assumes nothing.
 use mathlib.Core.Path.{◌≡◌, ◌∙◌}
-use Prim.Native.Nat.{◌+◌, ◌-◌, ◌≤◌}
 use native.Mathlib.Omega.{arith}
 use borrow.Author.Rules.{rules}
-use lib.ListN.{length, get_or}
-use Rattle.whole.specs.Lists.{filled}
+use lib.ListN.{get_or}
 use Rattle.whole.specs.Sums.{sum_of}
-use Rattle.whole.proofs.Lists.{fill_none, fill_more, copy_length, copy_all}
+use Rattle.whole.proofs.Lists.{fill_none, fill_more, copy_all}
 use Rattle.whole.proofs.Sums.{sum_to}
 use Rattle.weights.proofs.Weighed.{weighed_sum}
 use Rattle.remainder.specs.Rule.{rounded_down, remainders}
@@ -29,9 +27,6 @@ nonzero_rem-part c =
 pub loop-i-init : goal.loop-i-init
 unfolding sum_to
 loop-i-init c = (search rules, fill_none 0 _ _, fill_none 0 _ _, omega arith)
-
-pub overflow_cast-weight : goal.overflow_cast-weight
-overflow_cast-weight c = omega (arith, c.shared_slice_known-in-loop-i-1.given c.loop-i.i)
 
 pub overflow_mul-product : goal.overflow_mul-product
 overflow_mul-product c =
@@ -59,20 +54,10 @@ overflow_add-share c =
     let at = c.loop-i in
     omega (arith, share_at a.m a.weights.now c.weigh-total.result at.i total-is (omega arith), enough a.m a.weights.now (omega arith) at.i at.left at.invariant.3 (omega arith))
 
-pub bounds-shares-i : goal.bounds-shares-i
-bounds-shares-i c = let a = c.args in
-    let at = c.loop-i in
-    omega (arith, copy_length 0 (rounded_down a.m a.weights.now) a.shares.now at.shares at.i at.invariant.1)
-
 pub nonzero_rem-rests : goal.nonzero_rem-rests
 nonzero_rem-rests c =
     let total-is : c.weigh-total.result ≡ sum_of c.args.weights.now = c.weigh-total.ensures ∙ weighed_sum c.args.weights.now (omega arith) in
     omega (arith, total-is)
-
-pub bounds-rests-i : goal.bounds-rests-i
-bounds-rests-i c = let a = c.args in
-    let at = c.loop-i in
-    omega (arith, copy_length 0 (remainders a.m a.weights.now) a.rests.now at.rests at.i at.invariant.2)
 
 pub overflow_sub-left : goal.overflow_sub-left
 overflow_sub-left c =
@@ -93,16 +78,6 @@ loop-i-preserved c =
       fill_more 0 (λ k. get_or (remainders a.m a.weights.now) k 0) a.rests.now at.rests at.i at.i _ at.invariant.2 (omega arith) rest,
       rw share (less_left a.m a.weights.now (omega arith) at.i at.left at.invariant.3 (omega arith)),
     )
-
-pub shape_of-shares : goal.shape_of-shares
-shape_of-shares c = let a = c.args in
-    let at = c.loop-i in
-    copy_length 0 (rounded_down a.m a.weights.now) a.shares.now at.shares at.i at.invariant.1
-
-pub shape_of-rests : goal.shape_of-rests
-shape_of-rests c = let a = c.args in
-    let at = c.loop-i in
-    copy_length 0 (remainders a.m a.weights.now) a.rests.now at.rests at.i at.invariant.2
 
 pub returns : goal.returns
 returns c = let a = c.args in

@@ -1,19 +1,11 @@
 -- The places passed hold the shares rounded down and the remainders, and what is left is the magnitude less the shares passed,
 -- whose sum never goes past it. Assumes nothing.
-use mathlib.Core.Path.{◌≡◌, ◌∙◌}
+use mathlib.Core.Path.{◌≡◌}
 use Prim.Native.Nat.{◌+◌, ◌-◌, ◌≤◌}
-use native.Mathlib.Omega.{arith}
-use borrow.Author.Rules.{rules}
 use lib.ListN.{length, get_or}
 use Rattle.whole.specs.Lists.{filled}
-use Rattle.whole.specs.Sums.{sum_of}
-use Rattle.whole.proofs.Lists.{fill_none, fill_more, copy_length, copy_all}
 use Rattle.whole.proofs.Sums.{sum_to}
-use Rattle.weights.proofs.Weighed.{weighed_sum}
 use Rattle.remainder.specs.Rule.{rounded_down, remainders}
-use Rattle.remainder.proofs.Remainders.{rounded_length, remainders_length}
-use Rattle.remainder.proofs.Left.{enough, less_left, all_left}
-use Rattle.sharing.proofs.Parts.{share_at, rest_at, product_small}
 use Rattle.sharing.proofs.spread.divide.Given as goal
 
 abbrev pub invariant-loop-i : goal.invariant-loop-i

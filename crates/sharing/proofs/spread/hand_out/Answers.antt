@@ -2,7 +2,7 @@
 -- Assumes nothing.
 use mathlib.Core.Path.{◌≡◌, refl, ◌∙◌, ap, ap₂}
 use mathlib.Core.List.{List}
-use Prim.Native.Nat.{ℕ, ◌+◌, ◌-◌, ◌≤◌, ◌<◌, ◌^◌}
+use Prim.Native.Nat.{ℕ, ◌+◌, ◌≤◌, ◌<◌, ◌^◌}
 use native.Mathlib.Numerals.{add-one}
 use native.Mathlib.Omega.{arith}
 use borrow.Author.Rules.{rules}
@@ -45,16 +45,3 @@ loop-given-preserved c = let a = c.args in
     next (record { shares = a.shares.now; unserved = a.rests.now }) at.given at.shares at.rests at.invariant.1 at.invariant.2
     served.new.shares served.new.rests served.ensures.shares served.ensures.rests in
     (omega arith, after.0, after.1)
-
-pub shape_of-shares : goal.shape_of-shares
-shape_of-shares c = let a = c.args in
-    ap length c.loop-given.invariant.1 ∙ shares_length c.loop-given.given (record { shares = a.shares.now; unserved = a.rests.now })
-
-pub shape_of-rests : goal.shape_of-rests
-shape_of-rests c = let a = c.args in
-    ap length c.loop-given.invariant.2 ∙ unserved_length c.loop-given.given (record { shares = a.shares.now; unserved = a.rests.now })
-
-pub returns : goal.returns
-returns c = let a = c.args in
-    c.loop-given.invariant.1
-    ∙ ap (λ (given : ℕ). (hand_out given (record { shares = a.shares.now; unserved = a.rests.now })).shares) (omega arith)

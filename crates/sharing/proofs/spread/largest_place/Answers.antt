@@ -1,32 +1,29 @@
 -- The place and its remainder are those of the largest among the places passed. Assumes nothing.
-use mathlib.Core.Path.{◌≡◌, refl, sym, ◌∙◌, ap}
-use mathlib.Core.Logic.{⊎_elim}
-use Prim.Native.Nat.{ℕ, ◌-◌, ◌≤◌}
+use mathlib.Core.Path.{refl, sym, ◌∙◌, ap}
+use Prim.Native.Nat.{ℕ}
 use native.Mathlib.Omega.{arith}
 use borrow.Author.Rules.{rules}
-use lib.ListN.{length, get_or}
-use Rattle.remainder.specs.Rule.{largest}
+use lib.ListN.{get_or}
 use Rattle.remainder.proofs.Largest.{scan_start, scan_larger, scan_past}
 use Rattle.sharing.proofs.spread.largest_place.Goals as goal
+use Rattle.sharing.proofs.spread.largest_place.Goals.{then-top-rests, else-top-rests}
 
 pub loop-i-init : goal.loop-i-init
 loop-i-init c = (search rules, sym (scan_start _), refl)
 
 pub loop-i-preserved : goal.loop-i-preserved
-loop-i-preserved c = let at = c.loop-i in
+loop-i-preserved c =
+    let at = c.loop-i in
     let rests = c.args.rests.now in
-    ⊎_elim
-    (λ w. (
-      omega arith,
-      w.2 ∙ scan_larger rests at.i at.place at.top at.invariant.1 at.invariant.2 w.0.taken,
-      w.3 ∙ ap (λ (p : ℕ). get_or rests p 0) (sym w.2),
-    ))
-    (λ w. (
-      omega arith,
-      w.1 ∙ scan_past rests at.i at.place at.top at.invariant.1 at.invariant.2 w.0.left,
-      w.2 ∙ at.invariant.2 ∙ ap (λ (p : ℕ). get_or rests p 0) (sym w.1),
-    ))
-    c.if-top-rests.branch
-
-pub returns : goal.returns
-returns c = let rests = c.args.rests.now in c.loop-i.invariant.1 ∙ ap (largest rests) (omega arith)
+    elim c.if-top-rests.branch [
+      | then-top-rests w ↦ (
+        omega arith,
+        w.place-is ∙ scan_larger rests at.i at.place at.top at.invariant.1 at.invariant.2 w.if-top-rests.true,
+        w.top-is ∙ ap (λ (p : ℕ). get_or rests p 0) (sym w.place-is),
+      )
+      | else-top-rests w ↦ (
+        omega arith,
+        w.place-is ∙ scan_past rests at.i at.place at.top at.invariant.1 at.invariant.2 w.if-top-rests.false,
+        w.top-is ∙ at.invariant.2 ∙ ap (λ (p : ℕ). get_or rests p 0) (sym w.place-is),
+      )
+    ]

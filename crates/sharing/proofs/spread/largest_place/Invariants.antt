@@ -1,12 +1,8 @@
 -- The place and its remainder are those of the largest among the places passed. Assumes nothing.
-use mathlib.Core.Path.{◌≡◌, refl, sym, ◌∙◌, ap}
-use mathlib.Core.Logic.{⊎_elim}
-use Prim.Native.Nat.{ℕ, ◌-◌, ◌≤◌}
-use native.Mathlib.Omega.{arith}
-use borrow.Author.Rules.{rules}
+use mathlib.Core.Path.{◌≡◌}
+use Prim.Native.Nat.{◌-◌, ◌≤◌}
 use lib.ListN.{length, get_or}
 use Rattle.remainder.specs.Rule.{largest}
-use Rattle.remainder.proofs.Largest.{scan_start, scan_larger, scan_past}
 use Rattle.sharing.proofs.spread.largest_place.Given as goal
 
 abbrev pub invariant-loop-i : goal.invariant-loop-i

@@ -1,11 +1,8 @@
 -- The place found is that of the largest remainder, and its share, at most the sum of them all, takes one more.
 -- Assumes nothing.
-use mathlib.Core.Path.{ap}
-use Prim.Native.Nat.{ℕ, ◌+◌, ◌<◌}
+use Prim.Native.Nat.{◌<◌}
 use native.Mathlib.Omega.{arith}
-use borrow.Author.Rules.{rules}
-use lib.ListN.{length, get_or, set}
-use Rattle.remainder.specs.Rule.{largest}
+use lib.ListN.{length}
 use Rattle.whole.proofs.Sums.{place_within}
 use Rattle.remainder.proofs.Largest.{largest_is}
 use Rattle.sharing.proofs.spread.serve_one.Goals as goal
@@ -37,10 +34,3 @@ pub bounds-rests-place : goal.bounds-rests-place
 bounds-rests-place c =
     let inside : c.largest_place-place.result < length c.args.rests.now = let rests = c.args.rests.now in omega (arith, (largest_is rests (length rests) (omega arith)).below) in
     omega (arith, inside)
-
-pub returns : goal.returns
-returns c = let a = c.args in
-    let at = c.largest_place-place.ensures in record {
-      shares = ap (λ (p : ℕ). set a.shares.now p (get_or a.shares.now p 0 + 1)) at;
-      rests = ap (λ (p : ℕ). set a.rests.now p 0) at;
-    }

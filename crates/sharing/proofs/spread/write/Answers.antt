@@ -1,24 +1,17 @@
 -- The places passed hold the signed shares, each at most the sum, which an i64 holds. Assumes nothing.
-use mathlib.Core.Path.{◌≡◌, sym, ◌∙◌}
+use mathlib.Core.Path.{sym, ◌∙◌}
 use mathlib.Core.List.{map}
-use Prim.Native.Nat.{◌-◌, ◌≤◌}
 use native.Mathlib.Omega.{arith}
 use borrow.Author.Rules.{rules}
-use lib.ListN.{length, get_or, length-map, get_or-map}
-use Rattle.whole.specs.Lists.{filled}
+use lib.ListN.{get_or, length-map, get_or-map}
 use Rattle.whole.specs.Whole.{signed_of}
 use Rattle.whole.proofs.Laws.{read_back, held_within}
-use Rattle.whole.proofs.Lists.{fill_none, fill_more, copy_length, copy_all}
+use Rattle.whole.proofs.Lists.{fill_none, fill_more, copy_all}
 use Rattle.whole.proofs.Sums.{place_within}
 use Rattle.sharing.proofs.spread.write.Goals as goal
 
 pub loop-i-init : goal.loop-i-init
 loop-i-init c = (search rules, fill_none 0 _ _)
-
-pub bounds-out-i : goal.bounds-out-i
-bounds-out-i c = let a = c.args in
-    let at = c.loop-i in
-    omega (arith, copy_length (signed_of a.negative 0) (map (signed_of a.negative) a.shares.now) a.out.now at.out at.i at.invariant.1)
 
 pub loop-i-preserved : goal.loop-i-preserved
 loop-i-preserved c = let a = c.args in
@@ -30,11 +23,6 @@ loop-i-preserved c = let a = c.args in
       fill_more 0 (λ k. get_or (map (signed_of a.negative) a.shares.now) k (signed_of a.negative 0)) a.out.now at.out at.i at.i _ at.invariant.1 (omega arith)
           (is ∙ sym (get_or-map (signed_of a.negative) a.shares.now at.i 0)),
     )
-
-pub shape_of-out : goal.shape_of-out
-shape_of-out c = let a = c.args in
-    let at = c.loop-i in
-    copy_length (signed_of a.negative 0) (map (signed_of a.negative) a.shares.now) a.out.now at.out at.i at.invariant.1
 
 pub returns : goal.returns
 returns c = let a = c.args in

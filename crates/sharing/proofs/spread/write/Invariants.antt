@@ -1,15 +1,10 @@
 -- The places passed hold the signed shares, each at most the sum, which an i64 holds. Assumes nothing.
-use mathlib.Core.Path.{◌≡◌, sym, ◌∙◌}
+use mathlib.Core.Path.{◌≡◌}
 use mathlib.Core.List.{map}
 use Prim.Native.Nat.{◌-◌, ◌≤◌}
-use native.Mathlib.Omega.{arith}
-use borrow.Author.Rules.{rules}
-use lib.ListN.{length, get_or, length-map, get_or-map}
+use lib.ListN.{length, get_or}
 use Rattle.whole.specs.Lists.{filled}
 use Rattle.whole.specs.Whole.{signed_of}
-use Rattle.whole.proofs.Laws.{read_back, held_within}
-use Rattle.whole.proofs.Lists.{fill_none, fill_more, copy_length, copy_all}
-use Rattle.whole.proofs.Sums.{place_within}
 use Rattle.sharing.proofs.spread.write.Given as goal
 
 abbrev pub invariant-loop-i : goal.invariant-loop-i

@@ -1,6 +1,5 @@
 -- The amount's rows stand in front, and behind them is row 6 at the rate. Assumes nothing.
 use mathlib.Core.Path.{sym, ◌∙◌}
-use borrow.Author.Rules.{rules}
 use Rattle.refusal.specs.Rows.{rate_rows}
 use Rattle.refusal.proofs.Joined.{front_refused, front_passed}
 use Rattle.amount.specs.Amounts.{amount_rows}

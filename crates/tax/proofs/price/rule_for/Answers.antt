@@ -1,7 +1,6 @@
 -- A refused choice of the rule is row 1, a refused check is the row that it names, and what passed leaves the mode's rule.
 -- Assumes nothing.
 use mathlib.Core.Path.{sym, ◌∙◌, ap}
-use borrow.Author.Rules.{rules}
 use Rattle.refusal.specs.Rows.{gives}
 use Rattle.refusal.proofs.Check.{passed, refused}
 use Rattle.rounding.specs.Modes.{rule_of}

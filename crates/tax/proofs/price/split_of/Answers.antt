@@ -1,6 +1,5 @@
 -- The one test is row 13's, at the gross, which net and tax are within. Assumes nothing.
 use mathlib.Core.Path.{sym, ◌∙◌, ap}
-use borrow.Author.Rules.{rules}
 use Rattle.refusal.specs.Rows.{gives}
 use Rattle.tax.specs.Parts.{split_of}
 use Rattle.tax.proofs.Value.{same_parts, made_refused, made_given}

@@ -13,23 +13,6 @@ use Rattle.tax.specs.Tax.{million, from_gross}
 use Rattle.tax.proofs.Value.{said_refused, Call, limits, leaf, gross_tax, gross_limits, gross_said}
 use Rattle.tax.proofs.price.tax_from_gross.Goals as goal
 
-pub overflow_add-rate : goal.overflow_add-rate
-overflow_add-rate c =
-    let asked : (c.is_negative-negative.result ≡ negative c.args.gross.coefficient) × (c.magnitude-m.result ≡ magnitude_of c.args.gross.coefficient) =
-    let z = c.args.gross.coefficient in
-    let fits : SFits w64 z = search rules in
-    (c.is_negative-negative.ensures ∙ ap negative (to_z-of_z w64 z fits), c.magnitude-m.ensures ∙ ap magnitude_of (to_z-of_z w64 z fits)) in
-    let call : Call c.args.gross c.args.rate c.args.mode c.is_negative-negative.result c.magnitude-m.result c.in-Chosen.rule =
-    let s = c in
-    record {
-      signs = asked.0;
-      magnitudes = asked.1;
-      choice = c.rule_for.result;
-      said = c.rule_for.ensures;
-      chosen = c.in-Chosen.is;
-    } in
-    omega (arith, (limits call).1)
-
 pub overflow_sub-m : goal.overflow_sub-m
 overflow_sub-m c =
     let asked : (c.is_negative-negative.result ≡ negative c.args.gross.coefficient) × (c.magnitude-m.result ≡ magnitude_of c.args.gross.coefficient) =

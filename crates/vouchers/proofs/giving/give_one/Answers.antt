@@ -2,10 +2,9 @@
 use mathlib.Core.Path.{ap}
 use Prim.Native.Nat.{ℕ, ◌+◌, ◌<◌}
 use native.Mathlib.Omega.{arith}
-use borrow.Author.Rules.{rules}
 use lib.ListN.{length, get_or, set}
 use Rattle.whole.proofs.Sums.{place_within}
-use Rattle.average.specs.Rule.{highest, give}
+use Rattle.average.specs.Rule.{give}
 use Rattle.average.proofs.Highest.{highest_is}
 use Rattle.vouchers.proofs.giving.give_one.Goals as goal
 

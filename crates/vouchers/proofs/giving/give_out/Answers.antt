@@ -1,7 +1,7 @@
 -- After so many turns the holdings are those after so many vouchers, whose sum they have gained. Assumes nothing.
 use mathlib.Core.Path.{◌≡◌, refl, ◌∙◌, ap}
 use mathlib.Core.List.{List}
-use Prim.Native.Nat.{ℕ, ◌+◌, ◌-◌, ◌≤◌, ◌<◌, ◌^◌}
+use Prim.Native.Nat.{ℕ, ◌+◌, ◌≤◌, ◌<◌, ◌^◌}
 use native.Mathlib.Numerals.{add-one}
 use native.Mathlib.Omega.{arith}
 use borrow.Author.Rules.{rules}
@@ -35,11 +35,3 @@ pub loop-given-preserved : goal.loop-given-preserved
 loop-given-preserved c = let a = c.args in
     let at = c.loop-given in
     (omega arith, next a.weights.now a.held.now at.held at.given at.invariant.1 _ c.give_one.ensures)
-
-pub shape_of-held : goal.shape_of-held
-shape_of-held c = let a = c.args in
-    ap length c.loop-given.invariant.1 ∙ given_length c.loop-given.given a.weights.now a.held.now
-
-pub returns : goal.returns
-returns c = let a = c.args in
-    c.loop-given.invariant.1 ∙ ap (λ (given : ℕ). give_out given a.weights.now a.held.now) (omega arith)

@@ -1,14 +1,9 @@
 -- The place, its weight and one more than it holds are those of the highest average among the places passed; both products have two factors of
 -- 32 bits. Assumes nothing.
-use mathlib.Core.Path.{◌≡◌, refl, sym, ◌∙◌, ap}
-use mathlib.Core.Logic.{⊎_elim}
-use Prim.Native.Nat.{ℕ, ◌+◌, ◌-◌, ◌≤◌}
-use native.Mathlib.Nat.{mul-le-mul}
-use native.Mathlib.Omega.{arith}
-use borrow.Author.Rules.{rules}
+use mathlib.Core.Path.{◌≡◌}
+use Prim.Native.Nat.{◌+◌, ◌-◌, ◌≤◌}
 use lib.ListN.{length, get_or}
 use Rattle.average.specs.Rule.{highest}
-use Rattle.average.proofs.Highest.{scan_start, scan_higher, scan_past}
 use Rattle.vouchers.proofs.giving.highest_place.Given as goal
 
 abbrev pub invariant-loop-i : goal.invariant-loop-i

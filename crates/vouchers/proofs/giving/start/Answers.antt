@@ -2,78 +2,55 @@
 -- Assumes nothing.
 use mathlib.Core.Path.{◌≡◌, sym, ◌∙◌}
 use mathlib.Core.List.{List}
-use Prim.Native.Nat.{ℕ, ◌+◌, ◌*◌, ◌-◌, ◌/◌, ◌≤◌}
-use native.Mathlib.Nat.{mul-le-mul}
+use Prim.Native.Nat.{ℕ, ◌*◌, ◌/◌}
 use native.Mathlib.Omega.{arith}
 use borrow.Author.Rules.{rules}
-use lib.ListN.{length, get_or}
-use Rattle.whole.specs.Lists.{filled}
+use lib.ListN.{get_or}
 use Rattle.whole.specs.Sums.{sum_of}
-use Rattle.whole.proofs.Lists.{fill_none, fill_more, copy_length, copy_all}
-use Rattle.whole.proofs.Sums.{sum_to, place_within}
-use Rattle.weights.specs.Weights.{largest_sum}
+use Rattle.whole.proofs.Lists.{fill_none, fill_more, copy_all}
+use Rattle.whole.proofs.Sums.{sum_to}
 use Rattle.weights.proofs.Weighed.{weighed_sum}
 use Rattle.remainder.specs.Rule.{rounded_down}
 use Rattle.remainder.proofs.Remainders.{rounded_length, rounded_at}
 use Rattle.remainder.proofs.Left.{enough, less_left, all_left}
-use Rattle.vouchers.specs.Said.{most_vouchers}
 use Rattle.vouchers.proofs.giving.start.Goals as goal
 
-share-is : (m : ℕ) (ws : List ℕ) (total i : ℕ) → total ≡ sum_of ws → m * get_or ws i 0 / total ≡ get_or (rounded_down m ws) i 0
-share-is m ws total i e = rw e (sym (rounded_at m ws i))
+share_is : (m : ℕ) (ws : List ℕ) (total i : ℕ) → total ≡ sum_of ws → m * get_or ws i 0 / total ≡ get_or (rounded_down m ws) i 0
+share_is m ws total i e = rw e (sym (rounded_at m ws i))
 
 pub loop-i-init : goal.loop-i-init
 unfolding sum_to
 loop-i-init c = (search rules, fill_none 0 _ _, omega arith)
 
-pub overflow_cast-share-in-loop-i : goal.overflow_cast-share-in-loop-i
-overflow_cast-share-in-loop-i c = omega (arith, c.shared_slice_known-in-loop-i-1.given c.loop-i.i)
-
-pub overflow_mul-share : goal.overflow_mul-share
-overflow_mul-share c = let a = c.args in
-    let at = c.loop-i in
-    let weight : get_or a.weights.now at.i 0 ≤ largest_sum = omega (arith, place_within a.weights.now at.i) in
-    let few : a.count ≤ most_vouchers = omega arith in omega (arith, mul-le-mul few weight)
-
 pub nonzero_div-share : goal.nonzero_div-share
 nonzero_div-share c =
-    let total-is : c.weigh-total.result ≡ sum_of c.args.weights.now = c.weigh-total.ensures ∙ weighed_sum c.args.weights.now (omega arith) in
-    omega (arith, total-is)
+    let total_is : c.weigh-total.result ≡ sum_of c.args.weights.now = c.weigh-total.ensures ∙ weighed_sum c.args.weights.now (omega arith) in
+    omega (arith, total_is)
 
 pub overflow_cast-share-in-loop-i-2 : goal.overflow_cast-share-in-loop-i-2
 overflow_cast-share-in-loop-i-2 c =
-    let total-is : c.weigh-total.result ≡ sum_of c.args.weights.now = c.weigh-total.ensures ∙ weighed_sum c.args.weights.now (omega arith) in
+    let total_is : c.weigh-total.result ≡ sum_of c.args.weights.now = c.weigh-total.ensures ∙ weighed_sum c.args.weights.now (omega arith) in
     let a = c.args in
     let at = c.loop-i in
-    omega (arith, share-is a.count a.weights.now c.weigh-total.result at.i total-is, enough a.count a.weights.now (omega arith) at.i at.left at.invariant.2 (omega arith))
-
-pub bounds-held-i : goal.bounds-held-i
-bounds-held-i c = let a = c.args in
-    let at = c.loop-i in
-    omega (arith, copy_length 0 (rounded_down a.count a.weights.now) a.held.now at.held at.i at.invariant.1)
+    omega (arith, share_is a.count a.weights.now c.weigh-total.result at.i total_is, enough a.count a.weights.now (omega arith) at.i at.left at.invariant.2 (omega arith))
 
 pub overflow_sub-left : goal.overflow_sub-left
 overflow_sub-left c =
-    let total-is : c.weigh-total.result ≡ sum_of c.args.weights.now = c.weigh-total.ensures ∙ weighed_sum c.args.weights.now (omega arith) in
+    let total_is : c.weigh-total.result ≡ sum_of c.args.weights.now = c.weigh-total.ensures ∙ weighed_sum c.args.weights.now (omega arith) in
     let a = c.args in
     let at = c.loop-i in
-    omega (arith, share-is a.count a.weights.now c.weigh-total.result at.i total-is, enough a.count a.weights.now (omega arith) at.i at.left at.invariant.2 (omega arith))
+    omega (arith, share_is a.count a.weights.now c.weigh-total.result at.i total_is, enough a.count a.weights.now (omega arith) at.i at.left at.invariant.2 (omega arith))
 
 pub loop-i-preserved : goal.loop-i-preserved
 loop-i-preserved c =
-    let total-is : c.weigh-total.result ≡ sum_of c.args.weights.now = c.weigh-total.ensures ∙ weighed_sum c.args.weights.now (omega arith) in
+    let total_is : c.weigh-total.result ≡ sum_of c.args.weights.now = c.weigh-total.ensures ∙ weighed_sum c.args.weights.now (omega arith) in
     let a = c.args in
     let at = c.loop-i in
-    let share = share-is a.count a.weights.now c.weigh-total.result at.i total-is in (
+    let share = share_is a.count a.weights.now c.weigh-total.result at.i total_is in (
       omega arith,
       fill_more 0 (λ k. get_or (rounded_down a.count a.weights.now) k 0) a.held.now at.held at.i at.i _ at.invariant.1 (omega arith) share,
       rw share (less_left a.count a.weights.now (omega arith) at.i at.left at.invariant.2 (omega arith)),
     )
-
-pub shape_of-held : goal.shape_of-held
-shape_of-held c = let a = c.args in
-    let at = c.loop-i in
-    copy_length 0 (rounded_down a.count a.weights.now) a.held.now at.held at.i at.invariant.1
 
 pub returns : goal.returns
 returns c = let a = c.args in
