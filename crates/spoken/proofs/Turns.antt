@@ -78,9 +78,9 @@ module _ (line : List ℕ) (form : Form) where
           ap (turns line form first) z ∙ stays first s.words still (length line - s.words) ∙ s.is in
           (rw all e, (rw all refl, rw all refl))
 
-      pub empty_word_lem
+      pub empty_word
           : (spoken : Spoken) → spoken ≡ spoken_of heard → (word : Word) → word ≡ word_from line at → word.end ≤ word.start → Ended spoken
-      empty_word_lem spoken e word w h = ended spoken e (rw w at h)
+      empty_word spoken e word w h = ended spoken e (rw w at h)
 
       pub line_heard : (spoken : Spoken) → spoken ≡ spoken_of heard → length line ≤ at → Ended spoken
       line_heard spoken e h = ended spoken e (no_word line at h)

@@ -26,9 +26,9 @@ module _ (passes : ℕ → Bool) (bytes : List ℕ) (i m : ℕ) where
   abbrev from : ℕ → List ℕ
   from k = take (span passes (drop k bytes)) (drop k bytes)
 
-  pub goes_on_lem : i < length bytes → passes (get_or bytes i 0) ≡ true → worth m (from i) ≡ worth (m * 10 + (get_or bytes i 0 - 48)) (from (i + 1))
+  pub goes_on : i < length bytes → passes (get_or bytes i 0) ≡ true → worth m (from i) ≡ worth (m * 10 + (get_or bytes i 0 - 48)) (from (i + 1))
   unfolding span worth
-  goes_on_lem h e = rw (drop-cons bytes i 0 h, e, add-one)
+  goes_on h e = rw (drop-cons bytes i 0 h, e, add-one)
 
   pub stops : i < length bytes → passes (get_or bytes i 0) ≡ false → worth m (from i) ≡ m
   unfolding span worth
@@ -94,11 +94,11 @@ module _ (currency : Currency) (bytes : List ℕ) (start end : ℕ) (known : unk
       (malformed_said currency bytes start end known starts ends
       (bad_part (ltb 20 (length bytes)) (bad_whole bytes start end) (bad_fraction bytes end) (ap (λ (y : Bool). y || bad_fraction bytes end) e)))
 
-  pub rest_is_lem
+  pub rest_is
       : (number : ℕ) → number ≡ worth 0 (digits_from bytes start) → length bytes ≤ 20 → bad_whole bytes start end ≡ false
       → rest_said currency (ltb 0 start) bytes end number ≡ read_said currency bytes
   unfolding bad_shape
-  rest_is_lem number makes short good = by (bad_fraction bytes end) refl
+  rest_is number makes short good = by (bad_fraction bytes end) refl
     where
       number_is : worth number (fraction_from bytes end) ≡ number_at bytes start end
       number_is =

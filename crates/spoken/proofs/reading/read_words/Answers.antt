@@ -1,6 +1,6 @@
 -- After each turn one word more is heard. Assumes nothing.
 use native.Mathlib.Omega.{arith}
-use Rattle.spoken.proofs.Turns.{none_heard, word_places, one_heard, empty_word_lem, line_heard}
+use Rattle.spoken.proofs.Turns.{none_heard, word_places, one_heard, empty_word, line_heard}
 use Rattle.spoken.proofs.reading.read_words.Goals as goal
 
 pub loop-at-init : goal.loop-at-init
@@ -8,7 +8,7 @@ loop-at-init c = none_heard _ _ _ _ _ _ c.nothing_heard-heard.ensures
 
 pub returns-then-end-word : goal.returns-then-end-word
 returns-then-end-word c =
-    let all = empty_word_lem _ _ _ _ _ _ _ _ _ c.loop-at.invariant _ c.spoken_of.ensures _ c.word_from-word.ensures c.if-end-word.true in
+    let all = empty_word _ _ _ _ _ _ _ _ _ c.loop-at.invariant _ c.spoken_of.ensures _ c.word_from-word.ensures c.if-end-word.true in
     record { said = all.0; signs = all.1.0; magnitudes = all.1.1 }
 
 pub hear-step-requires : goal.hear-step-requires

@@ -6,7 +6,7 @@ use native.Mathlib.Omega.{arith}
 use lib.ListN.{length}
 use Rattle.text.specs.Read.{start_in, digits_end}
 use Rattle.text.proofs.Accepted.{within, start_inside}
-use Rattle.text.proofs.Pass.{whole_refused, rest_is_lem}
+use Rattle.text.proofs.Pass.{whole_refused, rest_is}
 use Rattle.text.proofs.reading.read_short.Goals as goal
 
 -- the digits end within the text
@@ -31,5 +31,5 @@ read_rest-requires c =
 pub returns : goal.returns
 returns c = let a = c.args in
     c.read_rest.ensures
-    ∙ rest_is_lem a.currency a.bytes.now c.start_of-start.result c.scan-whole.result.end c.requires.0 c.start_of-start.ensures c.scan-whole.ensures.ends
+    ∙ rest_is a.currency a.bytes.now c.start_of-start.result c.scan-whole.result.end c.requires.0 c.start_of-start.ensures c.scan-whole.ensures.ends
     c.scan-whole.result.number c.scan-whole.ensures.makes (omega (arith, c.requires.1)) (sym c.bad_whole.ensures ∙ c.if-bad_whole.false)

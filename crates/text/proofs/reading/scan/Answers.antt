@@ -8,7 +8,7 @@ use lib.ListN.{get_or}
 use Rattle.lines.specs.Lines.{is_digit}
 use Rattle.lines.proofs.Scans.{digit, below_digits, above_digits}
 use Rattle.lines.proofs.Spans.{on, ended, out}
-use Rattle.text.proofs.Pass.{goes_on_lem, stops, runs_out, grows}
+use Rattle.text.proofs.Pass.{goes_on, stops, runs_out, grows}
 use Rattle.text.proofs.reading.scan.Goals as goal
 
 pub returns-then-next-lt48 : goal.returns-then-next-lt48
@@ -54,7 +54,7 @@ loop-i-preserved c =
       omega (arith, there),
       grows l.number l.i (get_or bytes l.i 0 - 48) l.invariant.1 (omega (arith, c.if-next-gt57.false)),
       l.invariant.2 ∙ on is_digit bytes l.i there some,
-      l.invariant.3 ∙ goes_on_lem is_digit bytes l.i l.number there some,
+      l.invariant.3 ∙ goes_on is_digit bytes l.i l.number there some,
     )
 
 pub returns : goal.returns
