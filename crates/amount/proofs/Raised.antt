@@ -2,11 +2,10 @@
 -- added to or compared with. Of two amounts at the greater of their scales one was there before, and is within L. Assumes nothing.
 use mathlib.Core.Path.{◌≡◌, refl, sym, ◌∙◌, ap, ap₂}
 use mathlib.Core.Bool.{Bool, true, false, cond}
-use Prim.Native.Nat.{ℕ, zero, suc, ◌+◌, ◌-◌, ◌*◌, ◌<◌, ◌≤◌, ◌^◌, max}
+use Prim.Native.Nat.{ℕ, zero, suc, ◌-◌, ◌*◌, ◌<◌, ◌≤◌, ◌^◌, max}
 use native.Mathlib.Decide.{dec_lt, dec_le}
 use native.Mathlib.Omega.{arith}
 use borrow.Author.Tests.{lt-ltb, le-ltb}
-use lib.Dec.{ltb}
 use lib.IntN.{ℤ, pos, negsuc, +ℤ_comm, ◌+ℤ◌, ◌*ℤ◌}
 use lib.Signed.{mag, lt_z}
 use mir.Syntax.{w64}
@@ -14,8 +13,7 @@ use mir.Val.{SFits, to_z, of_z}
 use mir.ValLaws.{to_z-of_z}
 use Rattle.whole.specs.Whole.{negative, magnitude_of, signed_of, held_signed}
 use Rattle.whole.proofs.Laws.{sign_and_magnitude, magnitude_signed, held_within, read_back}
-use Rattle.refusal.specs.Rows.{Said}
-use Rattle.amount.specs.Amounts.{largest, last_scale, limited}
+use Rattle.amount.specs.Amounts.{largest, limited}
 use Rattle.amount.specs.Raising.{far, nearest, nearer}
 use Rattle.amount.specs.Sum.{compared}
 use Rattle.amount.proofs.Scales.{product, magnitude_product, magnitude_sum, magnitude_term, fits}

@@ -2,21 +2,19 @@
 -- magnitude of a sum is between the difference and the sum of the magnitudes. Assumes nothing.
 use mathlib.Core.Path.{◌≡◌, refl, sym, ◌∙◌, ap, ap₂}
 use mathlib.Core.Bool.{Bool, false, not}
-use Prim.Native.Nat.{ℕ, suc, ◌+◌, ◌-◌, ◌*◌, ◌<◌, ◌≤◌, ◌^◌}
-use native.Mathlib.Nat.{mul-le-mul, pow-le-pow_right, one-le-pow}
+use Prim.Native.Nat.{ℕ, suc, ◌+◌, ◌*◌, ◌<◌, ◌≤◌, ◌^◌}
+use native.Mathlib.Nat.{pow-le-pow_right, one-le-pow}
 use native.Mathlib.Decide.{dec_lt}
 use native.Mathlib.Omega.{arith}
 use borrow.Author.Tests.{lt-ltb, le-ltb}
 use lib.IntN.{ℤ, pos, negsuc, neg_ℤ, sub_ℕ, ◌+ℤ◌, ◌*ℤ◌}
-use lib.Signed.{mag}
 use mir.Syntax.{w64}
-use mir.Val.{SFits, to_z, of_z}
-use mir.ValLaws.{to_z-of_z}
+use mir.Val.{SFits}
 use Rattle.whole.specs.Whole.{negative, magnitude_of, signed_of, held_signed}
-use Rattle.whole.proofs.Laws.{sign_and_magnitude, magnitude_signed, signed_opposite, held_within, read_back}
+use Rattle.whole.proofs.Laws.{sign_and_magnitude, magnitude_signed, signed_opposite, held_within}
 use Rattle.rounding.specs.declared.Rule.{Rule}
 use Rattle.rounding.specs.Leaf.{rounded, rounded_magnitude}
-use Rattle.amount.specs.Amounts.{largest, last_scale}
+use Rattle.amount.specs.Amounts.{last_scale}
 
 -- the powers of ten up to 10^6
 pub ten_some : (k : ℕ) → 0 < 10 ^ k

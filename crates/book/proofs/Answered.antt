@@ -12,7 +12,7 @@ use Rattle.refusal.specs.declared.Refusal.{Refusal}
 use Rattle.refusal.specs.declared.Refusal.TheVariants.{Refund, Limit}
 use Rattle.refusal.specs.declared.Checked.TheVariants.{Passed, Refused}
 use Rattle.refusal.specs.Number.{number_of, blamed_of}
-use Rattle.refusal.specs.Rows.{Said, gives, refuses, Row, row, check_of}
+use Rattle.refusal.specs.Rows.{Said, gives, refuses, row, check_of}
 use Rattle.refusal.proofs.Check.{passed, refused, clear}
 use Rattle.whole.specs.Sums.{sum_of}
 use Rattle.amount.specs.declared.Amount.{Amount}

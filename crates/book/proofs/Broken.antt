@@ -4,9 +4,9 @@
 use mathlib.Core.Path.{◌≡◌, refl, ap, ◌∙◌}
 use mathlib.Core.Bool.{Bool, true, false, not}
 use mathlib.Core.List.{List, [], ◌∷◌, ◌++◌}
-use Prim.Native.Nat.{ℕ, ◌+◌, ◌-◌, ◌≤◌, ◌<◌}
+use Prim.Native.Nat.{ℕ, ◌+◌, ◌-◌, ◌<◌}
 use native.Mathlib.Omega.{arith}
-use borrow.Author.Tests.{lt-ltb, le-ltb}
+use borrow.Author.Tests.{lt-ltb}
 use lib.Dec.{ltb}
 use lib.IntN.{pos}
 use lib.ListN.{get_or, take, drop}
@@ -26,7 +26,7 @@ use Rattle.units.specs.Rule.{totals}
 use Rattle.running.proofs.Places.{place_within}
 use Rattle.book.specs.declared.Book.{Book}
 use Rattle.book.specs.Settled.{any_negative, far_off, any_over, not_nought, past_count, sum_over}
-use Rattle.book.specs.Books.{partners, weight_sum, cards, net_of, settled_sum, weight_rows, card_rows, rows3, rows4, rows9, rows10, with_book}
+use Rattle.book.specs.Books.{partners, weight_sum, cards, net_of, settled_sum, weight_rows, rows3, rows4, rows9, rows10, with_book}
 use Rattle.book.specs.Moves.{units_of, move_rows, post_said, refund_said, totals_said}
 use Rattle.book.specs.Cards.{new_card, new_rows, card_said}
 use Rattle.book.specs.Broken.{BreaksRule, nobody, many, past, light, heavy, unnumbered, beyond, settled_past}

@@ -1,19 +1,19 @@
 -- From the check of a new card to its promise: one test of row 9 in place of the rows of the new weights, what passed is ready for a new card,
 -- and the running totals added place by place are what the definition adds. Assumes nothing.
-use mathlib.Core.Path.{◌≡◌, refl, sym, ap, ap₂, ◌∙◌}
+use mathlib.Core.Path.{◌≡◌, refl, sym, ap, ◌∙◌}
 use mathlib.Core.Bool.{Bool, true, false, not, cond}
 use mathlib.Core.List.{List, [], ◌∷◌, ◌++◌}
-use Prim.Native.Nat.{ℕ, ◌+◌, ◌≤◌, ◌<◌}
+use Prim.Native.Nat.{ℕ, ◌+◌, ◌≤◌}
 use native.Mathlib.Omega.{arith}
 use borrow.Author.Tests.{ltb-false}
 use lib.Dec.{ltb, eqb}
-use lib.IntN.{ℤ, pos}
+use lib.IntN.{pos}
 use lib.ListN.{length, get_or, drop}
 use Rattle.refusal.specs.declared.Refusal.{Refusal}
 use Rattle.refusal.specs.declared.Refusal.TheVariants.{Weights, Room}
 use Rattle.refusal.specs.declared.Checked.TheVariants.{Passed, Refused}
 use Rattle.refusal.specs.Number.{number_of, blamed_of}
-use Rattle.refusal.specs.Rows.{Said, gives, refuses, Row, row, check_of}
+use Rattle.refusal.specs.Rows.{gives, refuses, Row, row, check_of}
 use Rattle.refusal.proofs.Check.{passed, refused, clear}
 use Rattle.whole.specs.Sums.{sum_of}
 use Rattle.whole.specs.Whole.{negative, magnitude_of}
@@ -24,10 +24,9 @@ use Rattle.amount.specs.Amounts.{largest}
 use Rattle.units.specs.Rule.{totals}
 use Rattle.units.proofs.Added.{length_totals, sum_totals}
 use Rattle.book.specs.declared.Book.{Book}
-use Rattle.book.specs.declared.Moved.{Moved}
-use Rattle.book.specs.Settled.{above, added_to}
-use Rattle.book.specs.Books.{partners, weight_sum, zeros, cards, net_of, settled_sum, weight_rows, rows3, rows4, rows9, rows10, with_book, book_rows, listed_rows}
-use Rattle.book.specs.Cards.{new_card, new_rows, carded_rows, card_said, card_book, Cards}
+use Rattle.book.specs.Settled.{added_to}
+use Rattle.book.specs.Books.{partners, weight_sum, zeros, cards, net_of, weight_rows, rows3, rows4, rows9, rows10, with_book, listed_rows}
+use Rattle.book.specs.Cards.{new_card, carded_rows, card_said, card_book, Cards}
 use Rattle.book.specs.Checks.{refused_in, breaks_by, Ready, added_by}
 use Rattle.book.proofs.Told.{same_check}
 use Rattle.book.proofs.Given.{listed_passed, book_fit, book_settled}

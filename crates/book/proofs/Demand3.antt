@@ -71,7 +71,7 @@ module _ (opened : Book) (begins : Begins opened) where
           at_least = λ i. rw by_rule_lem (floor opened.weights fresh.some (net_of b) i);
           at_most = λ i. rw by_rule_lem (ceiling opened.weights fresh.some (net_of b) i);
           added = ends.added;
-          byRule = by_rule_lem;
+          by_rule = by_rule_lem;
         })
 
     -- N is the accepted postings less the accepted refunds

@@ -6,7 +6,6 @@ use mathlib.Core.List.{List}
 use mathlib.Core.Logic.{◌↔◌}
 use Prim.Native.Nat.{ℕ, ◌+◌, ◌-◌}
 use lib.Dec.{T}
-use lib.ListN.{length}
 use Rattle.refusal.specs.Rows.{Said, refuses, Row, rising, Holds}
 use Rattle.refusal.proofs.ExactlyWhen.{Given, NoneBelow, exactly_when}
 use Rattle.amount.specs.declared.Amount.{Amount}

@@ -3,7 +3,7 @@
 use mathlib.Core.Path.{◌≡◌, refl, sym, ap, ◌∙◌}
 use mathlib.Core.Bool.{Bool, true, false}
 use mathlib.Core.List.{List, [], ◌∷◌, ◌++◌}
-use Prim.Native.Nat.{ℕ, ◌+◌, ◌≤◌, ◌<◌}
+use Prim.Native.Nat.{ℕ, ◌+◌, ◌≤◌}
 use native.Mathlib.Omega.{arith}
 use borrow.Author.Tests.{ltb-false, le-ltb, eq-eqb}
 use lib.IntN.{ℤ, pos}
@@ -92,5 +92,5 @@ module _ (b : Book) where
         let within : n ≤ largest = omega (arith, limit) in
         let digits : (line_of b.currency).digits ≤ last_scale = omega (arith, own_digits.1) in
         simp (le-ltb last_scale (line_of b.currency).digits digits, own_digits.0, le-ltb largest n within, rows.1.0, not_full n b.settled limit, rows.1.1.1.0, eq-eqb b.currency.0 b.currency.0 refl, w.0, w.1.0, w.1.1.0, w.1.1.1.0, w.1.1.1.1.0, card.0, card.1.0, card.1.1.0, card.1.1.1.1.0)
-        (same_first value (row Magnitude (over_l (magnitude_of z)) ∷ []) (row Negative (negative z) ∷ row Negative false ∷ row Negative false ∷ last ∷ []) (row Negative (negative z) ∷ last ∷ [])
+        (same_first value (row Magnitude (over_l (magnitude_of z)) ∷ []) _ (row Negative (negative z) ∷ last ∷ [])
         (same_first value (row Negative (negative z) ∷ []) (row Negative false ∷ row Negative false ∷ last ∷ []) (last ∷ []) refl))

@@ -1,7 +1,7 @@
 -- Over cards a partner's totals add to all cards' N, and lie less than as many units as there are cards from the exact sum of N x weight / W, which
 -- is num / den with den the product of the cards' W: each card's own total lies less than one unit from its exact share. By induction on the
 -- cards. Assumes nothing.
-use mathlib.Core.Path.{◌≡◌, refl, sym, ap, ◌∙◌}
+use mathlib.Core.Path.{◌≡◌, refl, ◌∙◌}
 use mathlib.Core.List.{List, [], ◌∷◌}
 use Prim.Native.Nat.{ℕ, zero, suc, ◌+◌, ◌*◌, ◌≤◌, ◌<◌}
 use native.Mathlib.Nat.{mul-lt-mul_of_pos_right, mul-pos, div-lt_iff_lt-mul}

@@ -7,9 +7,9 @@ use Prim.Native.Nat.{ℕ, zero, suc, ◌+◌, ◌≤◌}
 use native.Mathlib.Omega.{arith}
 use lib.IntN.{ℤ, pos}
 use lib.ListN.{length, get_or, replicate, length-replicate}
-use Rattle.refusal.specs.Rows.{gives, refuses}
+use Rattle.refusal.specs.Rows.{gives}
 use Rattle.whole.specs.Whole.{magnitude_of}
-use Rattle.whole.proofs.Sums.{sum_to, sum_same}
+use Rattle.whole.proofs.Sums.{sum_same}
 use Rattle.amount.specs.declared.Amount.{Amount}
 use Rattle.amount.specs.Amounts.{largest}
 use Rattle.currency.specs.declared.Currency.{Currency}
@@ -17,15 +17,14 @@ use Rattle.units.specs.Rule.{totals}
 use Rattle.units.proofs.Added.{length_totals, sum_totals}
 use Rattle.book.specs.declared.Book.{Book}
 use Rattle.book.specs.declared.Moved.{Moved}
-use Rattle.book.specs.Settled.{added_to}
 use Rattle.book.specs.Books.{partners, net_of, settled_sum, with_book, weight_rows}
 use Rattle.book.specs.Moves.{next_book, units_of, refund_said, Refunds, open_book, open_rows, open_said}
-use Rattle.book.specs.Cards.{new_card, carded_rows, card_said, card_book, Cards}
-use Rattle.book.specs.History.{Begins, opened_by, carded_by, History, running, Kept}
-use Rattle.book.specs.Quarter.{Card, card_of, Quarter, begun, renewed, total_on, totals_on, all_net, den, num, how_many, settled_at, together, Settles}
+use Rattle.book.specs.Cards.{new_card, carded_rows, card_said, card_book}
+use Rattle.book.specs.History.{Begins, opened_by, carded_by, History, Kept}
+use Rattle.book.specs.Quarter.{Card, card_of, Quarter, begun, renewed, totals_on, how_many, together, Settles}
 use Rattle.book.proofs.SettledTotals.{length_added, added_place, added_sum, limit_by}
-use Rattle.book.proofs.Calls.{no_row, Fresh, beginning, refund_moves}
-use Rattle.book.proofs.Demand3.{Contract, contract, kept}
+use Rattle.book.proofs.Calls.{no_row, beginning, refund_moves}
+use Rattle.book.proofs.Demand3.{contract, kept}
 use Rattle.book.proofs.OverCards.{Sixteen, All, none, more, near, all_net_lem}
 
 -- a card's first book: what it begins with
@@ -103,8 +102,8 @@ module _ (c : Currency) (ws : List ℕ) (opened : Book) (accepted : open_said c 
         each = each;
         added = sum_same (together b paid taken) (λ i. totals_on i (card_of b ∷ closed)) partners (λ i l. each i) ∙ all_net_lem (card_of b ∷ closed) all;
         number = number;
-        notAbove = λ i. rw (each i, number) (near i (card_of b) closed all).0;
-        notBelow = λ i. rw (each i, number) (near i (card_of b) closed all).1;
+        not_above = λ i. rw (each i, number) (near i (card_of b) closed all).0;
+        not_below = λ i. rw (each i, number) (near i (card_of b) closed all).1;
       }
 
   -- "Demand 3 then speaks of each card by itself"

@@ -1,12 +1,9 @@
 -- Two answers that a promise of the book allows are equal: the promise says the book and the lists outright, and an outcome is known by
 -- what it says, as a refusal is by its number and the date that it blames. Assumes nothing.
-use mathlib.Core.Path.{◌≡◌, refl, sym, ap, ◌∙◌}
+use mathlib.Core.Path.{◌≡◌, sym, ◌∙◌}
 use mathlib.Core.List.{List}
 use Prim.Native.Nat.{ℕ}
-use native.Mathlib.Omega.{arith}
 use Rattle.refusal.specs.Rows.{Said}
-use Rattle.refusal.specs.declared.Checked.{Checked}
-use Rattle.refusal.specs.declared.Checked.TheVariants.{Passed, Refused}
 use Rattle.refusal.proofs.OneToOne.{same_outcome}
 use Rattle.amount.specs.declared.Amount.{Amount}
 use Rattle.currency.specs.declared.Currency.{Currency}

@@ -1,7 +1,7 @@
 -- Document 02, Ask 9: "sixteen settled totals". Each is a signed number, as the net total is, so that a given book with a negative one can be
 -- refused: a sum of such numbers is that of those from 0 on, less the magnitudes of those below 0. Cited by the rows of a given book, by a
 -- posting's and by a new card. Assumes nothing.
-use Rattle.std.specs.Prelude.{Bool, true, false, cond, List, [], ◌∷◌, ℕ, zero, suc, ◌+◌, ltb, ℤ, pos, negsuc, ◌+ℤ◌, drop}
+use Rattle.std.specs.Prelude.{Bool, true, false, cond, List, [], ◌∷◌, ℕ, suc, ◌+◌, ltb, ℤ, pos, negsuc, ◌+ℤ◌, drop}
 use Rattle.whole.specs.Whole.{negative, magnitude_of}
 use Rattle.amount.specs.Amounts.{largest, over_l}
 

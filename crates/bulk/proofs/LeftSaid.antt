@@ -81,12 +81,12 @@ left_stays refund ws n (refuses number blamed) some = (refl, refl)
 
 -- a call in the program's variables: its sign and magnitude, the number that the check gave, and what was written
 module _ (settled : ℕ) (ws : List ℕ) (refund : Bool) (c : ℤ) (j n m number : ℕ) (sign : Bool) (payouts numbers held ps : List ℕ)
-    (same_sign : sign ≡ negative c) (same-m : m ≡ magnitude_of c) (checked : number ≡ number_said (left_said settled refund sign m n)) (at : held ≡ totals ws n) where
+    (same_sign : sign ≡ negative c) (same_m : m ≡ magnitude_of c) (checked : number ≡ number_said (left_said settled refund sign m n)) (at : held ≡ totals ws n) where
   -- what was written is what the call says
   stepped : (said : Said ℕ) → left_said settled refund sign m n ≡ said → (next : ℕ) (ts : List ℕ) → next ≡ left_net n said → ts ≡ totals ws next
       → ps ≡ written payouts (j * partners) (left_pays refund ws n said) partners → Stepped settled ws refund c j n payouts numbers next ts ps (set numbers j number)
   stepped said is next ts moved new put =
-      let same : left_said settled refund sign m n ≡ left_said settled refund (negative c) (magnitude_of c) n = ap₂ (λ (s : Bool) (x : ℕ). left_said settled refund s x n) same_sign same-m in
+      let same : left_said settled refund sign m n ≡ left_said settled refund (negative c) (magnitude_of c) n = ap₂ (λ (s : Bool) (x : ℕ). left_said settled refund s x n) same_sign same_m in
       let e = sym is ∙ same in
       record {
         net = moved ∙ ap (left_net n) e;

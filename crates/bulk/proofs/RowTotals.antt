@@ -9,6 +9,7 @@ use native.Mathlib.Omega.{arith}
 use lib.ListN.{length, get_or, set}
 use Rattle.whole.specs.Lists.{filled}
 use Rattle.whole.proofs.Lists.{fill_none}
+use Rattle.amount.specs.Amounts.{largest}
 use Rattle.units.specs.Rule.{totals}
 use Rattle.units.proofs.Added.{length_totals}
 use Rattle.units.proofs.Mask.{mask_cycle}
@@ -16,7 +17,7 @@ use Rattle.book.specs.Books.{partners, weight_sum, zeros}
 use Rattle.cycle.specs.Cycle.{Weighed, Cycled}
 use Rattle.running.proofs.Fitting.{product}
 use Rattle.running.proofs.Places.{fill_next, filled_whole}
-use Rattle.cycle.proofs.Bounds.{some_weight, weight_within}
+use Rattle.cycle.proofs.Bounds.{some_weight, weight_within, total_within}
 use Rattle.bulk.proofs.RowShare.{share_is, part_within}
 
 -- 2 ^ 40
@@ -63,6 +64,10 @@ module _ (ws : List ℕ) (sum : ℕ) (table : List ℕ) (n : ℕ) where
       total_is =
           rw (share, r.left, t.rows (n % sum) left_within, w.same)
           (omega (arith, mask_cycle ws (some_weight ws sum w long) n i (omega arith)))
+
+      -- so a total fits where n does
+      pub total_small : n ≤ largest → n / sum * get_or ws i 0 + n % sum * (scale / sum + 1) * get_or ws i 0 / scale + bits % 2 ≤ largest
+      total_small h = omega (arith, total_is, total_within ws sum w long n i b)
 
       pub read_more : Read ws sum table n (bits / 2) (set held i (n / sum * get_or ws i 0 + n % sum * (scale / sum + 1) * get_or ws i 0 / scale + bits % 2)) (i + 1)
       read_more = record {

@@ -1,6 +1,6 @@
 -- Document 01, "Interest over days": "Dates are Gregorian: a leap year is divisible by 4, and not by 100 unless by 400."
 -- Cited by the promises on dates. Assumes nothing.
-use Rattle.std.specs.Prelude.{Bool, true, false, cond, ◌&&◌, List, [], ◌∷◌, ℕ, zero, suc, ◌+◌, ◌-◌, ◌%◌, leb, eqb, get_or}
+use Rattle.std.specs.Prelude.{Bool, true, false, cond, ◌&&◌, [], ◌∷◌, ℕ, zero, suc, ◌+◌, ◌-◌, ◌%◌, leb, eqb, get_or}
 
 unfoldable pub leap : ℕ → Bool
 leap year = cond (eqb (year % 400) 0) true (cond (eqb (year % 100) 0) false (eqb (year % 4) 0))

@@ -5,7 +5,9 @@ ghost use Rattle.intake.specs.Cuts.{cut_of};
 ghost use Rattle.console.specs.Feeds.{first_feed};
 
 use crate::Feed;
+use crate::said::say_failed;
 use intake::{Cut, Intake, Mark, keep, mark_of, next_line};
+use std::io::Read;
 
 // The bytes of a byte order mark.
 const MARK: usize = 3;
@@ -90,7 +92,7 @@ fn begin(text: &[u8], feed: Feed, held: usize, ended: bool) -> Feed
 }
 
 // Reads once behind the bytes that are kept. A buffer that these fill is one that is too small, and nothing is read.
-pub fn refill(fd: i32, feed: Feed, text: &mut [u8]) -> Feed
+pub fn refill(rt: &impl Eprint, reader: &mut impl Read, feed: Feed, text: &mut [u8]) -> Feed
     ensures { result.held ≤ length text.new }
 {
     let from = feed.intake.from;
@@ -98,12 +100,12 @@ pub fn refill(fd: i32, feed: Feed, text: &mut [u8]) -> Feed
     if text.len() <= kept {
         return failed_feed();
     }
-    let part = &mut text[kept..];
-    let got = libc::read(fd, part);
-    if got < 0 {
-        os::fail(b"read");
-        return failed_feed();
-    }
-    let more = io::count(got, part);
+    let more = match reader.read(&mut text[kept..]) {
+        Ok(more) => more,
+        Err(error) => {
+            say_failed(rt, "read", error);
+            return failed_feed();
+        },
+    };
     begin(text, feed, kept + more, more == 0)
 }

@@ -6,7 +6,9 @@ use intake::Intake;
 
 mod feeds;
 mod outs;
+mod said;
 mod starts;
+mod streams;
 mod verbs;
 
 // The input: how many of its bytes are held in a buffer, and where reading stands in them.
@@ -28,10 +30,17 @@ pub struct Waiting {
     pub failed: bool,
 }
 
-// Where a program reads from: a descriptor, or nowhere, and then the status that it ends with.
-#[derive(Clone, Copy)]
-pub enum Source {
-    From(i32),
+// What a program reads: standard input, or an open file.
+#[derive(Drop)]
+pub enum Stream<I, F> {
+    Standard(I),
+    Named(F),
+}
+
+// Where a program reads from: a stream, or nowhere, and then the status that it ends with.
+#[derive(Drop)]
+pub enum Source<I, F> {
+    From(Stream<I, F>),
     Nowhere(u8),
 }
 
@@ -70,6 +79,12 @@ pub enum Verb {
     Unknown,
 }
 
+// The bytes of a buffer that holds input, or output that waits.
+pub const BUFFER: usize = 65_536;
+
+// More bytes than a path has.
+pub const PATH: usize = 4_096;
+
 // The statuses of a program's end.
 pub const WELL: u8 = 0;
 
@@ -83,5 +98,6 @@ pub const BLEMISHED: u8 = 4;
 
 pub use feeds::{first_feed, next_cut, refill};
 pub use outs::{make_room, put_named, write_out};
-pub use starts::{end_with, open_first, open_source};
-pub use verbs::{form_of, takes, verb_of};
+pub use said::{say, say_failed};
+pub use starts::{end_with, open_first, open_source, path_text, read_path};
+pub use verbs::{form_of, same, takes, verb_of};

@@ -3,11 +3,11 @@ ghost use Rattle.std.specs.Prelude.{◌≡◌, false, ◌+◌, ◌≤◌, length
 ghost use Rattle.lines.specs.Texts.{put_at, place_behind, text_of};
 
 use crate::Waiting;
-use libc::STDOUT_FILENO;
+use crate::said::say_failed;
 use lines::{put_bytes, put_number};
 
 // Writes the bytes that wait, so that none does.
-pub fn write_out(out: &[u8], waiting: Waiting) -> Waiting
+pub fn write_out(rt: &(impl Print + Eprint), out: &[u8], waiting: Waiting) -> Waiting
     ensures { result.at ≡ 0 }
 {
     let at = waiting.at;
@@ -17,9 +17,8 @@ pub fn write_out(out: &[u8], waiting: Waiting) -> Waiting
             failed: true,
         };
     }
-    let is_written = io::write_all(STDOUT_FILENO, &out[0..at]);
-    if !is_written {
-        os::fail(b"write");
+    if let Err(error) = rt.write_all(&out[0..at]) {
+        say_failed(rt, "write", error);
         return Waiting {
             at: 0,
             failed: true,
@@ -32,7 +31,7 @@ pub fn write_out(out: &[u8], waiting: Waiting) -> Waiting
 }
 
 // Makes room for so many bytes more, where the buffer has it: where too little is left, those that wait are written.
-pub fn make_room(out: &[u8], waiting: Waiting, room: usize) -> Waiting
+pub fn make_room(rt: &(impl Print + Eprint), out: &[u8], waiting: Waiting, room: usize) -> Waiting
     ensures { room ≤ length out.now → result.at + room ≤ length out.now }
 {
     let at = waiting.at;
@@ -41,7 +40,7 @@ pub fn make_room(out: &[u8], waiting: Waiting, room: usize) -> Waiting
             return waiting;
         }
     }
-    write_out(out, waiting)
+    write_out(rt, out, waiting)
 }
 
 // Words and a number behind them, at a place; the place behind both.

@@ -1,65 +1,139 @@
-// A program's start and end: the file that its one argument names, or standard input; and the status, which it writes as one digit to
-// descriptor 3, since it has no exit status.
-ghost use Rattle.std.specs.Prelude.{◌≡◌, ◌+◌, ◌≤◌, ◌<◌};
+// A program's start and end: the file that its one argument names, or standard input; and the status, which goes as one digit to descriptor 3.
+ghost use Rattle.std.specs.Prelude.{◌≡◌, ◌+◌, ◌≤◌, ◌<◌, length, IfSome};
 ghost use Rattle.console.specs.Sources.{end_of};
 
-use crate::{FAILED, MISUSED, Source};
-use check::same;
-use libc::{STDERR_FILENO, STDIN_FILENO};
+use crate::said::{say, say_failed};
+use crate::verbs::same;
+use crate::{FAILED, MISUSED, PATH, Source, Stream};
+use std::env::FillError;
+use std::fs;
+use std::fs::File;
+use std::io::{Result, Write};
+use std::rt::{Env, Files};
+use std::str::from_utf8;
 
-const STATUS_FILENO: i32 = 3;
+// Descriptor 3 by its name.
+const STATUS: &str = "/proc/self/fd/3";
 
-// The file that the first argument names; `-` is standard input.
-fn open_file() -> Source
+// Whether the command has a word at a place, its own name being the first.
+fn has_word(rt: &impl Env, place: usize) -> bool {
+    match rt.arg(place, &mut []) {
+        Err(FillError::NotPresent) => false,
+        _ => true,
+    }
+}
+
+// How many words the command has.
+fn count_words(rt: &impl Env) -> usize {
+    for place in 0..usize::MAX {
+        if !has_word(rt, place) {
+            return place;
+        }
+    }
+    usize::MAX
+}
+
+// Puts the path that a word of the command names at the front of a buffer, and answers its length; none for one that is too long.
+pub fn read_path(rt: &(impl Env + Eprint), place: usize, path: &mut [u8]) -> Option<usize>
+    ensures { IfSome result (λ n. n ≤ length path.new) }
+{
+    match rt.arg(place, path) {
+        Ok(length) => Some(length),
+        Err(FillError::TooLong) => {
+            say(rt, b"path: File name too long\n");
+            None
+        },
+        Err(FillError::NotPresent) => {
+            say(rt, b"path: Invalid argument\n");
+            None
+        },
+    }
+}
+
+// The text of a path; none for one that is no text, since only a text can be opened.
+pub fn path_text<'a>(rt: &impl Eprint, path: &'a [u8]) -> Option<&'a str> {
+    match from_utf8(path) {
+        Ok(text) => Some(text),
+        Err(_) => {
+            say(rt, b"path: the name is not UTF-8\n");
+            None
+        },
+    }
+}
+
+// The file of a path.
+fn open_path<R: Files + Input + Eprint>(rt: &R, path: &[u8]) -> Source<R::Reader, R::File>
     ensures { (2 ≤ end_of result) × (end_of result ≤ 3) }
 {
-    let mut path = io::buffer();
-    let length = os::arg(1, &mut path);
-    if os::errno() != 0 {
-        os::fail(b"path");
+    let Some(text) = path_text(rt, path) else {
         return Source::Nowhere(FAILED);
+    };
+    match fs::open(rt, text) {
+        Ok(file) => Source::From(Stream::Named(file)),
+        Err(error) => {
+            say_failed(rt, text, error);
+            Source::Nowhere(FAILED)
+        },
     }
+}
+
+// The file that the first argument names; `-` is standard input.
+fn open_file<R: Files + Env + Input + Eprint>(rt: &R) -> Source<R::Reader, R::File>
+    ensures { (2 ≤ end_of result) × (end_of result ≤ 3) }
+{
+    let mut path = [0u8; PATH];
+    let Some(length) = read_path(rt, 1, &mut path) else {
+        return Source::Nowhere(FAILED);
+    };
     if same(&path[..length], b"-") {
-        return Source::From(STDIN_FILENO);
+        return Source::From(Stream::Standard(rt.reader()));
     }
-    let fd = os::open_read(&path[..length]);
-    if fd < 0 {
-        os::fail(&path[..length]);
-        return Source::Nowhere(FAILED);
-    }
-    Source::From(fd)
+    open_path(rt, &path[..length])
 }
 
 // What a program reads that has so many words in its command, its own name among them: with any other number of them it ends with status 2,
 // and says how it is used.
-pub fn open_first(count: usize, usage: &[u8]) -> Source
+pub fn open_first<R: Files + Env + Input + Eprint>(
+    rt: &R,
+    count: usize,
+    usage: &[u8],
+) -> Source<R::Reader, R::File>
     ensures { (2 ≤ end_of result) × (end_of result ≤ 3) }
 {
-    if os::arg_count() == count {
-        return open_file();
+    if count_words(rt) == count {
+        return open_file(rt);
     }
-    io::write_all(STDERR_FILENO, usage);
+    say(rt, usage);
     Source::Nowhere(MISUSED)
 }
 
 // What the program reads; where there is nothing to read, it ends with status 2 or 3.
-pub fn open_source() -> Source
+pub fn open_source<R: Files + Env + Input + Eprint>(rt: &R) -> Source<R::Reader, R::File>
     ensures { (2 ≤ end_of result) × (end_of result ≤ 3) }
 {
-    if os::arg_count() < 2 {
-        return Source::From(STDIN_FILENO);
+    if count_words(rt) < 2 {
+        return Source::From(Stream::Standard(rt.reader()));
     }
-    open_first(2, b"one argument at most: the file to read\n")
+    open_first(rt, 2, b"one argument at most: the file to read\n")
+}
+
+// Writes the digit behind what the descriptor's file has, where it is open to be written. One that is only read may be the user's own, and is left alone.
+fn write_digit(rt: &impl Files, digit: u8) -> Result<()> {
+    if fs::symlink_metadata(rt, STATUS)?.permissions().readonly() {
+        return Ok(());
+    }
+    let mut file = File::options().append(true).open(rt, STATUS)?;
+    file.write_all(&[digit])
 }
 
 // Writes the status, and answers its digit. That the descriptor is closed, or is the file that was read, is no error.
-pub fn end_with(status: u8) -> u8
+pub fn end_with(rt: &impl Files, status: u8) -> u8
     ensures { status < 10 → result ≡ 48 + status }
 {
     if 9 < status {
         return 48;
     }
     let digit = 48 + status;
-    io::write_all(STATUS_FILENO, &[digit]);
+    let _ = write_digit(rt, digit);
     digit
 }

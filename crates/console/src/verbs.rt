@@ -1,10 +1,16 @@
 // The words that a line may begin with, and how many numbers stand behind each.
 ghost use Rattle.std.specs.Prelude.{◌≡◌, ◌&&◌, ◌||◌, eqb, leb};
-ghost use Rattle.console.specs.Verbs.{of_four, of_five, of_six, of_seven, of_eight, of_others, verb_of, form_of, takes_of};
+ghost use Rattle.console.specs.Verbs.{same_bytes, of_four, of_five, of_six, of_seven, of_eight, of_others, verb_of, form_of, takes_of};
 
 use crate::Verb;
-use check::same;
 use spoken::{Form, Kind};
+
+// Whether two words are the same.
+pub fn same(word: &[u8], other: &[u8]) -> bool
+    ensures { result ≡ same_bytes word.now other.now }
+{
+    word == other
+}
 
 fn of_four(word: &[u8]) -> Verb
     ensures { result ≡ of_four word.now }

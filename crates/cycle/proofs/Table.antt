@@ -1,18 +1,17 @@
 -- What a lent table holds after `fill_cycle`: a row for each net total below W where the weights keep their rule and the table has the
 -- places, and else what it held. Assumes nothing.
-use mathlib.Core.Path.{◌≡◌, ap, ◌∙◌}
-use mathlib.Core.Bool.{Bool, true, false, cond}
+use mathlib.Core.Path.{◌≡◌}
+use mathlib.Core.Bool.{true, false}
 use mathlib.Core.List.{List}
 use Prim.Native.Nat.{ℕ, ◌+◌, ◌≤◌, ◌<◌}
 use native.Mathlib.Omega.{arith}
 use borrow.Author.Tests.{le-leb, lt-leb}
-use lib.Dec.{leb}
-use lib.ListN.{length, get_or}
+use lib.ListN.{length}
 use Rattle.whole.specs.Sums.{sum_of}
 use Rattle.whole.specs.Lists.{filled}
 use Rattle.whole.proofs.Lists.{length_filled, filled_inside}
 use Rattle.units.specs.Mask.{mask}
-use Rattle.running.specs.Limits.{weight_sum, weighed}
+use Rattle.running.specs.Limits.{weighed}
 use Rattle.running.proofs.Total.{keeps}
 use Rattle.cycle.specs.Cycle.{cycle_in, Weighed, Cycled}
 

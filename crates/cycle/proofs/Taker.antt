@@ -9,7 +9,7 @@ use borrow.Author.Tests.{lt-ltb}
 use lib.ListN.{length, get_or}
 use Rattle.units.specs.Rule.{due, place, may_at, due_at, taker_of, totals}
 use Rattle.units.proofs.Added.{taken}
-use Rattle.units.proofs.Taker.{takes_taker}
+use Rattle.units.proofs.Taker.{takes_taker, taker_takes}
 use Rattle.units.proofs.Loops.{scan_same}
 use Rattle.running.specs.Limits.{partners, weight_sum}
 use Rattle.running.specs.Taking.{late, may_now, first_due, number_of}
@@ -43,3 +43,7 @@ module _ (ws : List ℕ) (sum n : ℕ) (held dues : List ℕ) (w : Weighed ws su
       let who = taken ws (some_weight ws sum w long) n in
       let f : taker_of ws held (n + 1) ≡ place who.0 = rw (walk.units, add-one) (takes_taker ws (totals ws n) (suc n) who.0 who.1) in
       f ∙ ap place (sym (e ∙ ap number_of (first_is ∙ f)))
+
+  -- it is one of the places
+  pub found_inside : (p : ℕ) → p ≡ number_of (first_due ws sum held dues (n + 1)) → p < partners
+  found_inside p e = omega (arith, long, (taker_takes ws held (n + 1) p (taker_found p e)).partner)

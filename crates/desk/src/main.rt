@@ -16,13 +16,13 @@ mod turns;
 use console::{Source, end_with, open_source};
 use turns::answer_file;
 
-fn main() {
-    match open_source() {
+fn main(rt: HostRuntime) {
+    match open_source(&rt) {
         Source::Nowhere(status) => {
-            end_with(status);
+            end_with(&rt, status);
         },
-        Source::From(fd) => {
-            end_with(answer_file(fd));
+        Source::From(stream) => {
+            end_with(&rt, answer_file(&rt, stream));
         },
     }
 }

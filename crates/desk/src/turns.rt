@@ -3,9 +3,12 @@ use crate::answers::put_unknown;
 use crate::asking::put_plain;
 use crate::booked::answer;
 use crate::books::{Current, no_book};
-use console::{FAILED, Feed, WELL, Waiting, first_feed, make_room, next_cut, refill, write_out};
+use console::{
+    BUFFER, FAILED, Feed, WELL, Waiting, first_feed, make_room, next_cut, refill, write_out,
+};
 use intake::Found;
 use lines::put_bytes;
+use std::io::Read;
 
 // More bytes than an answer has: the longest is a comment of 4,000.
 const ANSWER: usize = 5_000;
@@ -51,18 +54,24 @@ fn put_no_answer(mut desk: Desk, out: &mut [u8]) -> Desk {
 }
 
 // With the answers written before more is read, so that none waits for bytes that are slow to come.
-fn read_on(fd: i32, mut desk: Desk, text: &mut [u8], out: &[u8]) -> Desk {
+fn read_on(
+    rt: &(impl Print + Eprint),
+    reader: &mut impl Read,
+    mut desk: Desk,
+    text: &mut [u8],
+    out: &[u8],
+) -> Desk {
     let feed = desk.feed;
     let waiting = desk.waiting;
-    desk.waiting = write_out(out, waiting);
-    desk.feed = refill(fd, feed, text);
+    desk.waiting = write_out(rt, out, waiting);
+    desk.feed = refill(rt, reader, feed, text);
     desk
 }
 
 // With the last answers written.
-fn close(mut desk: Desk, out: &[u8]) -> Desk {
+fn close(rt: &(impl Print + Eprint), mut desk: Desk, out: &[u8]) -> Desk {
     let waiting = desk.waiting;
-    desk.waiting = write_out(out, waiting);
+    desk.waiting = write_out(rt, out, waiting);
     desk.open = false;
     desk
 }
@@ -76,7 +85,12 @@ pub struct Standing {
 }
 
 // With one more answer behind those that wait, if what comes next is a line that needs no book; else nothing is read.
-fn plain_line(text: &[u8], standing: Standing, out: &mut [u8]) -> Standing {
+fn plain_line(
+    rt: &(impl Print + Eprint),
+    text: &[u8],
+    standing: Standing,
+    out: &mut [u8],
+) -> Standing {
     let mut feed = standing.feed;
     let held = standing.waiting;
     let cut = next_cut(text, feed);
@@ -84,7 +98,7 @@ fn plain_line(text: &[u8], standing: Standing, out: &mut [u8]) -> Standing {
     let end = cut.end;
     let next = cut.next;
     let found = cut.found;
-    let mut waiting = make_room(out, held, ANSWER);
+    let mut waiting = make_room(rt, out, held, ANSWER);
     let Found::Line = found else {
         return Standing {
             feed,
@@ -110,7 +124,13 @@ fn plain_line(text: &[u8], standing: Standing, out: &mut [u8]) -> Standing {
 }
 
 // The lines that need no book, one after another up to the first thing that is none: the current book is not moved for them.
-fn plain_lines(text: &[u8], feed: Feed, waiting: Waiting, out: &mut [u8]) -> Standing {
+fn plain_lines(
+    rt: &(impl Print + Eprint),
+    text: &[u8],
+    feed: Feed,
+    waiting: Waiting,
+    out: &mut [u8],
+) -> Standing {
     let mut standing = Standing {
         feed,
         waiting,
@@ -122,13 +142,19 @@ fn plain_lines(text: &[u8], feed: Feed, waiting: Waiting, out: &mut [u8]) -> Sta
             return standing;
         }
         turns -= 1;
-        standing = plain_line(text, standing, out);
+        standing = plain_line(rt, text, standing, out);
     }
     standing
 }
 
 // The next thing to do: a line is answered, more bytes are read, or the end is there.
-fn next_turn(fd: i32, mut desk: Desk, text: &mut [u8], out: &mut [u8]) -> Desk {
+fn next_turn(
+    rt: &(impl Print + Eprint),
+    reader: &mut impl Read,
+    mut desk: Desk,
+    text: &mut [u8],
+    out: &mut [u8],
+) -> Desk {
     let waiting = desk.waiting;
     let mut feed = desk.feed;
     let cut = next_cut(text, feed);
@@ -138,25 +164,31 @@ fn next_turn(fd: i32, mut desk: Desk, text: &mut [u8], out: &mut [u8]) -> Desk {
     let found = cut.found;
     feed.intake = next;
     desk.feed = feed;
-    desk.waiting = make_room(out, waiting, ANSWER);
+    desk.waiting = make_room(rt, out, waiting, ANSWER);
     match found {
         Found::Line => put_answer(desk, &text[start..end], out),
         Found::Long => put_no_answer(desk, out),
-        Found::More => read_on(fd, desk, text, out),
-        Found::Nothing => close(desk, out),
+        Found::More => read_on(rt, reader, desk, text, out),
+        Found::Nothing => close(rt, desk, out),
     }
 }
 
 // The lines that need no book, and the next thing to do.
-fn turn(fd: i32, mut desk: Desk, text: &mut [u8], out: &mut [u8]) -> Desk {
+fn turn(
+    rt: &(impl Print + Eprint),
+    reader: &mut impl Read,
+    mut desk: Desk,
+    text: &mut [u8],
+    out: &mut [u8],
+) -> Desk {
     let feed = desk.feed;
     let waiting = desk.waiting;
-    let standing = plain_lines(text, feed, waiting, out);
+    let standing = plain_lines(rt, text, feed, waiting, out);
     let read = standing.feed;
     let held = standing.waiting;
     desk.feed = read;
     desk.waiting = held;
-    next_turn(fd, desk, text, out)
+    next_turn(rt, reader, desk, text, out)
 }
 
 fn goes_on(desk: Desk) -> bool {
@@ -167,7 +199,12 @@ fn goes_on(desk: Desk) -> bool {
 }
 
 // A proved loop has to end, and nothing says that a file does: the turns are counted down from a number that no run uses up.
-fn answer_all(fd: i32, text: &mut [u8], out: &mut [u8]) -> Desk {
+fn answer_all(
+    rt: &(impl Print + Eprint),
+    reader: &mut impl Read,
+    text: &mut [u8],
+    out: &mut [u8],
+) -> Desk {
     let mut desk = first_desk();
     let mut turns = u64::MAX;
     while goes_on(desk) {
@@ -175,16 +212,16 @@ fn answer_all(fd: i32, text: &mut [u8], out: &mut [u8]) -> Desk {
             return desk;
         }
         turns -= 1;
-        desk = turn(fd, desk, text, out);
+        desk = turn(rt, reader, desk, text, out);
     }
     desk
 }
 
-// Answers each line of what the descriptor reads, and answers the status.
-pub(crate) fn answer_file(fd: i32) -> u8 {
-    let mut text = io::large_buffer();
-    let mut out = io::large_buffer();
-    let desk = answer_all(fd, &mut text, &mut out);
+// Answers each line of what the reader gives, and answers the status.
+pub(crate) fn answer_file(rt: &(impl Print + Eprint), mut reader: impl Read + Drop) -> u8 {
+    let mut text = [0u8; BUFFER];
+    let mut out = [0u8; BUFFER];
+    let desk = answer_all(rt, &mut reader, &mut text, &mut out);
     if desk.waiting.failed {
         return FAILED;
     }

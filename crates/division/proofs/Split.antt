@@ -1,7 +1,7 @@
 -- A product's quotient and rest without the product: a x b = (a / d x b) x d + (a % d) x b, and the second product by the two digits of b.
 -- Assumes nothing.
 use mathlib.Core.Path.{◌≡◌, refl, sym, ap, ◌∙◌}
-use mathlib.Core.Bool.{Bool, true, false, ◌&&◌}
+use mathlib.Core.Bool.{true, false, ◌&&◌}
 use Prim.Native.Nat.{ℕ, ◌+◌, ◌*◌, ◌/◌, ◌%◌, ◌<◌, ◌≤◌}
 use native.Mathlib.Decide.{dec_lt}
 use native.Mathlib.Nat.{div-add-mod', mul-le-mul, mul-le-mul_right, le-div_iff_mul-le, div-mul-le_self, div-lt_iff_lt-mul}

@@ -1,13 +1,12 @@
 -- A word of digit pairs read one pair after another into the front of a list. Assumes nothing.
-use mathlib.Core.Path.{◌≡◌, refl, sym, ◌∙◌, ap}
-use mathlib.Core.Bool.{Bool, true, false}
+use mathlib.Core.Path.{◌≡◌, sym, ◌∙◌, ap}
 use mathlib.Core.List.{List}
 use Prim.Native.Nat.{ℕ, suc, ◌+◌, ◌*◌, ◌≤◌, ◌<◌}
 use native.Mathlib.Numerals.{add-one}
 use native.Mathlib.Omega.{arith}
 use borrow.Author.Tests.{ltb-true}
 use lib.ListN.{length, get_or, set, length-set}
-use lib.Seq.{paste, paste-zero, paste-suc}
+use lib.Seq.{paste, paste-suc}
 use Rattle.lines.specs.Lines.{span}
 use Rattle.lines.specs.Texts.{put_at}
 use Rattle.lines.proofs.Fills.{copied}
@@ -21,9 +20,6 @@ module _ (word bytes₀ : List ℕ) (count : ℕ) where
     pub inside : i ≤ count
     pub sized : length bytes ≡ length bytes₀
     pub is : bytes ≡ paste bytes₀ 0 (bytes_of word) i
-
-  pub none_filled : Filled bytes₀ 0
-  none_filled = record { inside = omega arith; sized = refl; is = paste-zero bytes₀ 0 (bytes_of word) }
 
   module _ (bytes : List ℕ) (i : ℕ) (f : Filled bytes i) (even : length word ≡ count * 2) (room : count ≤ length bytes₀) where
     pub one_filled

@@ -22,10 +22,6 @@ module _ (out₀ : List ℕ) (at : ℕ) (bytes : List ℕ) where
   none_put = record { inside = omega arith; place = omega arith; sized = refl; is = paste-zero out₀ at (digits_of bytes) }
 
   module _ (out : List ℕ) (to i : ℕ) (p : Put out to i) (room : at + length bytes * 2 ≤ length out₀) where
-    -- there are places for the two digits
-    pub two_places : i < length bytes → to + 1 < length out
-    two_places l = omega (arith, p.place, p.sized)
-
     pub two_put
         : (high low : ℕ) → i < length bytes → high ≡ digit_of (get_or bytes i 0 / 16) → low ≡ digit_of (get_or bytes i 0 % 16)
         → Put (set (set out to high) (to + 1) low) (to + 2) (i + 1)

@@ -23,11 +23,11 @@ other_found : {P : Type 0} → ◌≡◌ {A = ℕ} 0 1 → P
 other_found z = absurd (omega arith)
 
 module _ (text : List ℕ) (at : Intake) where
-  line-inside
+  line_inside
       : (end next : ℕ) (unended : Bool) → at.from ≤ end → end ≤ length text → next ≤ length text
       → Within (length text) (line_of text at end next unended)
   unfolding line_of
-  line-inside end next unended f h n =
+  line_inside end next unended f h n =
       either (Within (length text)) (at.skipping || ltb longest (stop_of text at.from end - at.from))
       (λ e. record { in_order = f; short = λ w. other_found (cc); inside = h; next_inside = n; waiting = λ w. other_found (cc) })
       (λ e.
@@ -39,7 +39,7 @@ module _ (text : List ℕ) (at : Intake) where
   unfolding last_of
   last_inside h =
       either (Within (length text)) (at.skipping || ltb at.from (length text))
-      (λ e. line-inside (length text) (length text) true h (omega arith) (omega arith))
+      (λ e. line_inside (length text) (length text) true h (omega arith) (omega arith))
       (λ e.
       record { in_order = omega arith; short = λ w. other_found (cc); inside = omega arith; next_inside = h; waiting = λ w. other_found (cc) })
 
@@ -60,7 +60,7 @@ module _ (text : List ℕ) (at : Intake) where
       either (Within (length text)) (ltb (line_end text at.from) (length text))
       (λ e.
       let l : line_end text at.from < length text = ltb-true _ _ e in
-      line-inside (line_end text at.from) (line_end text at.from + 1) false (line_from text at.from) (omega arith) (omega arith))
+      line_inside (line_end text at.from) (line_end text at.from + 1) false (line_from text at.from) (omega arith) (omega arith))
       (λ e. either (Within (length text)) at.ended (λ f. last_inside h) (λ f. unended_inside h))
 
   pub standing_inside : (standing_of text at).from ≤ length text

@@ -1,7 +1,7 @@
 -- Bytes moved to the front one by one, in order: each is read before anything is written over it. Assumes nothing.
 use mathlib.Core.Path.{◌≡◌, sym, ◌∙◌, ap}
 use mathlib.Core.List.{List, ◌++◌}
-use Prim.Native.Nat.{ℕ, ◌+◌, ◌-◌, ◌≤◌, ◌<◌}
+use Prim.Native.Nat.{ℕ, ◌+◌, ◌-◌, ◌≤◌}
 use native.Mathlib.Omega.{arith}
 use lib.ListN.{length, get_or, set, take, drop, length-append, length-take, length-drop, get_or-append}
 use lib.Seq.{slice, get_or-take, get_or-drop, get_or-append-add}

@@ -28,17 +28,17 @@ module _ (line : List ℕ) (from : ℕ) where
   among zero k h = absurd (omega arith)
   among (suc n) k h = counted _ (numbers_among line from n) refl (among n) k h
 
-  stopped-next
+  stopped_next
       : (t : Bool) (n c : ℕ) → is_number (number_behind line from c) ≡ t → (c ≡ n) ⊎ (is_number (number_behind line from c) ≡ false)
       → (cond t (suc c) c ≡ suc n) ⊎ (is_number (number_behind line from (cond t (suc c) c)) ≡ false)
-  stopped-next true n c e (inl s) = inl (ap suc s)
-  stopped-next true n c e (inr s) = let z : ◌≡◌ {A = ℕ} 0 1 = cc in absurd (omega arith)
-  stopped-next false n c e s = inr e
+  stopped_next true n c e (inl s) = inl (ap suc s)
+  stopped_next true n c e (inr s) = let z : ◌≡◌ {A = ℕ} 0 1 = cc in absurd (omega arith)
+  stopped_next false n c e s = inr e
 
   stopped : (n : ℕ) → (numbers_among line from n ≡ n) ⊎ (is_number (number_behind line from (numbers_among line from n)) ≡ false)
   unfolding numbers_among
   stopped zero = inl refl
-  stopped (suc n) = stopped-next _ n (numbers_among line from n) refl (stopped n)
+  stopped (suc n) = stopped_next _ n (numbers_among line from n) refl (stopped n)
 
   one_byte : (k : ℕ) → is_number (number_behind line from k) ≡ true → behind_words line from k < (word_behind line from k).end
   one_byte k e = by (dec_le (word_behind line from k).end (word_behind line from k).start)

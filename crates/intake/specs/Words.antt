@@ -1,4 +1,4 @@
--- The words of a line from a place on, read as numbers one after another up to the first that is none. Cited by `next_word_lem` and
+-- The words of a line from a place on, read as numbers one after another up to the first that is none. Cited by `next_word` and
 -- `read_numbers`. Assumes nothing.
 use Rattle.std.specs.Prelude.{Bool, true, false, cond, List, [], ◌∷◌, ℕ, zero, suc, min, ltb, eqb, length}
 use Rattle.lines.specs.Lines.{word_from}

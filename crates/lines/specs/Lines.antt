@@ -1,6 +1,6 @@
 -- A line of text, its words and its whole numbers, as the programs read them: bytes of ASCII. Cited by the functions of `lines`.
 -- Assumes nothing.
-use Rattle.std.specs.Prelude.{Bool, true, false, not, cond, ◌&&◌, List, [], ◌∷◌, ℕ, zero, suc, ◌+◌, ◌-◌, ◌*◌, ◌^◌, min, leb, ltb, eqb, ℤ, length, get_or, drop}
+use Rattle.std.specs.Prelude.{Bool, true, false, not, cond, ◌&&◌, List, [], ◌∷◌, ℕ, suc, ◌+◌, ◌-◌, ◌*◌, ◌^◌, min, leb, ltb, eqb, ℤ, length, get_or, drop}
 use Rattle.whole.specs.Whole.{signed_of}
 use Rattle.lines.specs.declared.Word.{Word}
 use Rattle.lines.specs.declared.Number.{Number}

@@ -1,5 +1,5 @@
 -- Whole numbers as text, as the programs write them. Cited by `put_number`. Assumes nothing.
-use Rattle.std.specs.Prelude.{Bool, true, false, cond, ◌&&◌, List, [], ◌∷◌, ◌++◌, ℕ, zero, suc, ◌+◌, ◌/◌, ◌%◌, ltb, leb, length, take, drop}
+use Rattle.std.specs.Prelude.{Bool, cond, ◌&&◌, List, [], ◌∷◌, ◌++◌, ℕ, zero, suc, ◌+◌, ◌/◌, ◌%◌, ltb, leb, length, take, drop}
 
 -- the decimal digits of a number below 10 ^ places, with no zero in front but for 0 itself
 unfoldable pub decimal : (places n : ℕ) → List ℕ

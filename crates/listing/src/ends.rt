@@ -1,10 +1,10 @@
 // A file read from its end: the bytes before a place of it, of which the last are held.
 ghost use Rattle.std.specs.Prelude.{◌+◌, ◌≤◌, length};
 
-use libc::{SEEK_END, STDERR_FILENO};
+use console::{say, say_failed};
 use statement::{RECORD_WITH_REASON, RECORDS, TRAILER};
+use std::io::{Read, Seek, SeekFrom};
 use std::num::wrapping_add_u64;
-use whole::{is_negative, magnitude, signed};
 
 // The longest statement.
 const LONGEST: usize = RECORDS * RECORD_WITH_REASON + TRAILER;
@@ -26,58 +26,81 @@ fn failed_ending() -> Ending {
     }
 }
 
-// Whether nothing can be read at the file's end: it is a folder's and a pipe's that can't be told.
-fn is_end(fd: i32, end: i64) -> bool {
+// Whether nothing can be read where the file stands, at its end: it is a folder's and a pipe's that can't be told.
+fn is_end(rt: &impl Eprint, file: &mut impl Read) -> bool {
     let mut byte = [0u8; 1];
-    let got = libc::pread(fd, &mut byte, end);
-    if got < 0 {
-        os::fail(b"read");
-        return false;
+    match file.read(&mut byte) {
+        Ok(0) => true,
+        Ok(_) => {
+            say(rt, b"read: the file has no end\n");
+            false
+        },
+        Err(error) => {
+            say_failed(rt, "read", error);
+            false
+        },
     }
-    if 0 < got {
-        io::write_all(STDERR_FILENO, b"read: the file has no end\n");
-        return false;
-    }
-    true
 }
 
 // All of the file is left, and nothing is held.
-pub(crate) fn whole_file(fd: i32) -> Ending {
-    let end = libc::lseek(fd, 0, SEEK_END);
-    if is_negative(end) {
-        os::fail(b"seek");
-        return failed_ending();
-    }
-    if !is_end(fd, end) {
-        return failed_ending();
-    }
-    Ending {
-        left: magnitude(end),
-        held: 0,
-        failed: false,
+pub(crate) fn whole_file(rt: &impl Eprint, file: &mut (impl Read + Seek)) -> Ending {
+    match file.seek(SeekFrom::End(0)) {
+        Ok(left) => if is_end(rt, file) {
+            Ending {
+                left,
+                held: 0,
+                failed: false,
+            }
+        } else {
+            failed_ending()
+        },
+        Err(error) => {
+            say_failed(rt, "seek", error);
+            failed_ending()
+        },
     }
 }
 
-// One read of the bytes from a place of the file on, into the buffer from a place on up to another; how many they are.
-fn read_part(fd: i32, offset: u64, buffer: &mut [u8], from: usize, to: usize) -> usize
+// One read of the bytes from a place of the file on, into the buffer from a place on up to another; how many they are, and none where it failed.
+fn read_part(
+    rt: &impl Eprint,
+    file: &mut (impl Read + Seek),
+    offset: u64,
+    buffer: &mut [u8],
+    from: usize,
+    to: usize,
+) -> usize
     requires { (from ≤ to) × (to ≤ length buffer.old) }
     ensures { from + result ≤ to }
 {
     let at = wrapping_add_u64(offset, from as u64);
-    let part = &mut buffer[from..to];
-    let got = libc::pread(fd, part, signed(false, at));
-    io::count(got, part)
+    if let Err(error) = file.seek(SeekFrom::Start(at)) {
+        say_failed(rt, "seek", error);
+        return 0;
+    }
+    match file.read(&mut buffer[from..to]) {
+        Ok(more) => more,
+        Err(error) => {
+            say_failed(rt, "read", error);
+            0
+        },
+    }
 }
 
 // Whether so many bytes of the file from a place on are read to the front of the buffer.
-fn read_whole(fd: i32, offset: u64, buffer: &mut [u8], count: usize) -> bool
+fn read_whole(
+    rt: &impl Eprint,
+    file: &mut (impl Read + Seek),
+    offset: u64,
+    buffer: &mut [u8],
+    count: usize,
+) -> bool
     requires { count ≤ length buffer.old }
 {
     let mut done = 0;
     while done < count {
-        let more = read_part(fd, offset, buffer, done, count);
+        let more = read_part(rt, file, offset, buffer, done, count);
         if more == 0 {
-            os::fail(b"read");
             return false;
         }
         done += more;
@@ -96,7 +119,12 @@ fn fitting(left: u64, room: usize) -> usize
 }
 
 // With enough bytes held for the longest statement, or all that are left. They are read again only where too few are held.
-pub(crate) fn hold(fd: i32, ending: Ending, buffer: &mut [u8]) -> Ending {
+pub(crate) fn hold(
+    rt: &impl Eprint,
+    file: &mut (impl Read + Seek),
+    ending: Ending,
+    buffer: &mut [u8],
+) -> Ending {
     if LONGEST <= ending.held {
         return ending;
     }
@@ -105,7 +133,7 @@ pub(crate) fn hold(fd: i32, ending: Ending, buffer: &mut [u8]) -> Ending {
         return ending;
     }
     let count = fitting(left, buffer.len());
-    if !read_whole(fd, left - count as u64, buffer, count) {
+    if !read_whole(rt, file, left - count as u64, buffer, count) {
         return failed_ending();
     }
     Ending {

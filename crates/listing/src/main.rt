@@ -6,15 +6,15 @@ mod outs;
 mod walks;
 
 use console::{Source, end_with, open_first};
-use walks::walk_file;
+use walks::walk_stream;
 
-fn main() {
-    match open_first(2, b"one argument: the file to walk\n") {
+fn main(rt: HostRuntime) {
+    match open_first(&rt, 2, b"one argument: the file to walk\n") {
         Source::Nowhere(status) => {
-            end_with(status);
+            end_with(&rt, status);
         },
-        Source::From(fd) => {
-            end_with(walk_file(fd));
+        Source::From(stream) => {
+            end_with(&rt, walk_stream(&rt, stream));
         },
     }
 }

@@ -38,6 +38,7 @@ fn put_record(out: &mut [u8], at: usize, payout: Reasoned) -> usize {
 
 // A line for each record from a place on, as the reader hands them out.
 fn put_records(
+    rt: &(impl Print + Eprint),
     bytes: &[u8],
     version: u16,
     from: usize,
@@ -52,7 +53,7 @@ fn put_records(
         let AnyStep::Next(payout) = step else {
             return waiting;
         };
-        waiting = make_room(out, waiting, LINE);
+        waiting = make_room(rt, out, waiting, LINE);
         waiting.at = put_record(out, waiting.at, payout);
         at = any_place_after(bytes, version, at);
         i += 1;
@@ -62,20 +63,26 @@ fn put_records(
 
 // The lines of the statement that the bytes end in.
 pub(crate) fn put_statement(
+    rt: &(impl Print + Eprint),
     bytes: &[u8],
     summary: SummaryOfAny,
     before: Waiting,
     out: &mut [u8],
 ) -> Waiting {
-    let mut waiting = make_room(out, before, LINE);
+    let mut waiting = make_room(rt, out, before, LINE);
     let first = read_any_at(bytes, summary.version, summary.first);
     waiting.at = put_heading(out, waiting.at, summary, first);
-    put_records(bytes, summary.version, summary.first, waiting, out)
+    put_records(rt, bytes, summary.version, summary.first, waiting, out)
 }
 
 // The bytes that are left where they are no statement.
-pub(crate) fn put_other(left: u64, before: Waiting, out: &mut [u8]) -> Waiting {
-    let mut waiting = make_room(out, before, LINE);
+pub(crate) fn put_other(
+    rt: &(impl Print + Eprint),
+    left: u64,
+    before: Waiting,
+    out: &mut [u8],
+) -> Waiting {
+    let mut waiting = make_room(rt, out, before, LINE);
     let behind = put_named(out, waiting.at, b"other ", left);
     waiting.at = put_bytes(out, behind, b"\n");
     waiting

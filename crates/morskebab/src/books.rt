@@ -12,24 +12,21 @@ use flat::{
 };
 
 // A book with these weights, as many partners as there are, and a net total of 0: refusals 4, 9.
-#[unsafe(no_mangle)]
-pub extern "C" fn mkb_open(currency: i64, weights: &[u32]) -> MkbOpened
+pub fn mkb_open(currency: i64, weights: &[u32]) -> MkbOpened
     ensures { result ≡ opened_of (open_said (currency_from currency) weights.now) }
 {
     flat_opened(Book::open(given_currency(currency), weights))
 }
 
 // The next book and what each partner is paid; refused, the given book and noughts: refusals 2, 3, 4, 5, 9, 10, 13.
-#[unsafe(no_mangle)]
-pub extern "C" fn mkb_post(book: MkbBook, a: MkbAmount) -> MkbMoved
+pub fn mkb_post(book: MkbBook, a: MkbAmount) -> MkbMoved
     ensures { result ≡ moved_of paid_of book (post_said (book_from book) (amount_from a)) }
 {
     flat_moved(book, given_book(book).post(given_amount(a)))
 }
 
 // The next book and what is taken back from each partner; refused, the given book and noughts: refusals 2, 3, 4, 5, 9, 10, 12.
-#[unsafe(no_mangle)]
-pub extern "C" fn mkb_refund(book: MkbBook, a: MkbAmount) -> MkbMoved
+pub fn mkb_refund(book: MkbBook, a: MkbAmount) -> MkbMoved
     ensures { result ≡ moved_of taken_of book (refund_said (book_from book) (amount_from a)) }
 {
     flat_moved(book, given_book(book).refund(given_amount(a)))
@@ -37,16 +34,14 @@ pub extern "C" fn mkb_refund(book: MkbBook, a: MkbAmount) -> MkbMoved
 
 // The book on its next card, with these weights for the same count: the running totals are settled, the net total is 0, nothing is paid; refused,
 // the given book: refusals 3, 4, 9, 10.
-#[unsafe(no_mangle)]
-pub extern "C" fn mkb_new_card(book: MkbBook, weights: &[u32]) -> MkbMoved
+pub fn mkb_new_card(book: MkbBook, weights: &[u32]) -> MkbMoved
     ensures { result ≡ carded_of book (card_said (book_from book) weights.now) }
 {
     flat_moved(book, given_book(book).card(weights))
 }
 
 // Each partner's running total at the book's net total: refusals 3, 4, 9, 10.
-#[unsafe(no_mangle)]
-pub extern "C" fn mkb_running_totals(book: MkbBook) -> MkbTotals
+pub fn mkb_running_totals(book: MkbBook) -> MkbTotals
     ensures { result ≡ running_of (totals_said (book_from book)) }
 {
     flat_totals(given_book(book).totals())

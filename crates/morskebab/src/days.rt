@@ -14,24 +14,21 @@ use flat::{
 use interest::interest;
 
 // Whether the date exists, from 1900 to 2199.
-#[unsafe(no_mangle)]
-pub extern "C" fn mkb_date_exists(date: MkbDate) -> bool
+pub fn mkb_date_exists(date: MkbDate) -> bool
     ensures { result ≡ exists (date_from date).year (date_from date).month (date_from date).day }
 {
     date_exists(given_date(date))
 }
 
 // The days from the start to the end by the basis: refusals 6, 7, 8.
-#[unsafe(no_mangle)]
-pub extern "C" fn mkb_day_count(basis: i64, start: MkbDate, end: MkbDate) -> MkbDays
+pub fn mkb_day_count(basis: i64, start: MkbDate, end: MkbDate) -> MkbDays
     ensures { result ≡ days_of (days_said (passed8 basis) (date_from start) (date_from end)) }
 {
     flat_days(day_count(pass_u8(basis), given_date(start), given_date(end)))
 }
 
 // The interest on the principal from the start to the end: refusals 1, 2, 3, 4, 6, 7, 8, 13.
-#[unsafe(no_mangle)]
-pub extern "C" fn mkb_interest(
+pub fn mkb_interest(
     principal: MkbAmount,
     rate: i64,
     basis: i64,

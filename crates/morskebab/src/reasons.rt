@@ -17,8 +17,7 @@ use view::read_any_at;
 
 // A record with its reason for each payout from the start on and a trailer of version 2 behind them; the file's end, or the refusal 3, 4, 9 or 11.
 // No other byte of `out` changes, and none where the call is refused.
-#[unsafe(no_mangle)]
-pub extern "C" fn mkb_write_reasons(
+pub fn mkb_write_reasons(
     currency: i64,
     places: &[u16],
     reasons: &[u16],
@@ -41,16 +40,14 @@ pub extern "C" fn mkb_write_reasons(
 }
 
 // The version, the first record's start, the count and the sum of the statement file of either version that the bytes end in, or refusal 14.
-#[unsafe(no_mangle)]
-pub extern "C" fn mkb_check_any(bytes: &[u8]) -> MkbAnyStatement
+pub fn mkb_check_any(bytes: &[u8]) -> MkbAnyStatement
     ensures { result ≡ any_statement_of (any_said bytes.now) }
 {
     flat_any_statement(check_any(bytes))
 }
 
 // The record of a version's statement at a place, or that the view has ended, and the place of what comes next.
-#[unsafe(no_mangle)]
-pub extern "C" fn mkb_reasoned_at(bytes: &[u8], version: i64, at: i64) -> MkbAnyStep
+pub fn mkb_reasoned_at(bytes: &[u8], version: i64, at: i64) -> MkbAnyStep
     ensures { result ≡ any_step_of (any_step_at bytes.now (passed16 version) (passed64 at)) (any_place_after bytes.now (passed16 version) (passed64 at)) }
 {
     let version = pass_u16(version);

@@ -12,8 +12,7 @@ use flat::{
 };
 
 // Both columns as amounts of the currency at the scale, from the exact worth of the doubles, by the mode: refusals 1, 2, 4, 13, 16.
-#[unsafe(no_mangle)]
-pub extern "C" fn mkb_row(row: MkbColumns, currency: i64, scale: i64, mode: i64) -> MkbRowAnswer
+pub fn mkb_row(row: MkbColumns, currency: i64, scale: i64, mode: i64) -> MkbRowAnswer
     ensures { result ≡ row_answer_of (taken_said (row_from row) (currency_from currency) (passed8 scale) (passed8 mode)) }
 {
     flat_row(take_row(
@@ -25,8 +24,7 @@ pub extern "C" fn mkb_row(row: MkbColumns, currency: i64, scale: i64, mode: i64)
 }
 
 // The coefficient as a double, divided once by 1, 10, 100 or 1,000: refusals 2, 3, 4.
-#[unsafe(no_mangle)]
-pub extern "C" fn mkb_export(a: MkbAmount) -> MkbDouble
+pub fn mkb_export(a: MkbAmount) -> MkbDouble
     ensures { result ≡ double_of (export_said (amount_from a)) }
 {
     flat_double(export(given_amount(a)))

@@ -10,8 +10,7 @@ use flat::{MkbBook, MkbRan, flat_ran, given_book};
 // The movements in turn, a refund of the coefficient where `refunds` has true and else a posting: call j's payouts at the sixteen places from
 // 16 x j on and its number, 0 where it is accepted, at place j; the places past the run stay. The run itself is refused, and then every place
 // stays and the given book comes back: 3, 4, 9, 10 for the book, 9 for lists of unequal length, 11 for too little room.
-#[unsafe(no_mangle)]
-pub extern "C" fn mkb_run(
+pub fn mkb_run(
     book: MkbBook,
     refunds: &[bool],
     coefficients: &[i64],

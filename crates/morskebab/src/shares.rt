@@ -12,8 +12,7 @@ use vouchers::vouchers;
 
 // The shares by largest remainder into the first places of `out`, as many as weights; the others, and every place where the call is
 // refused, stay as they stood. The answer is 0 or the refusal 2, 3, 4, 9 or 11.
-#[unsafe(no_mangle)]
-pub extern "C" fn mkb_share(a: MkbAmount, weights: &[u32], out: &mut [i64]) -> u8
+pub fn mkb_share(a: MkbAmount, weights: &[u32], out: &mut [i64]) -> u8
     ensures said { result ≡ refusal_of (shared_said (amount_from a) weights.now (length out.old)) }
     ensures places { out.new ≡ out_after (shared_said (amount_from a) weights.now (length out.old)) out.old }
 {
@@ -23,8 +22,7 @@ pub extern "C" fn mkb_share(a: MkbAmount, weights: &[u32], out: &mut [i64]) -> u
 
 // The vouchers by highest average into the first places of `out`, as many as weights; the others, and every place where the call is refused,
 // stay as they stood. The answer is 0 or the refusal 6, 9 or 11.
-#[unsafe(no_mangle)]
-pub extern "C" fn mkb_vouchers(count: i64, weights: &[u32], out: &mut [u32]) -> u8
+pub fn mkb_vouchers(count: i64, weights: &[u32], out: &mut [u32]) -> u8
     ensures said { result ≡ refusal_of (vouchers_said (passed32 count) weights.now (length out.old)) }
     ensures places { out.new ≡ out_after (vouchers_said (passed32 count) weights.now (length out.old)) out.old }
 {

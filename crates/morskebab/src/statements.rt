@@ -11,8 +11,7 @@ use statement::{check, write};
 
 // A record for each payout from the start on and a trailer behind them; the file's end, or the refusal 3, 4, 9 or 11. No other byte of `out`
 // changes, and none where the call is refused.
-#[unsafe(no_mangle)]
-pub extern "C" fn mkb_write_statement(
+pub fn mkb_write_statement(
     currency: i64,
     places: &[u16],
     coefficients: &[i64],
@@ -33,8 +32,7 @@ pub extern "C" fn mkb_write_statement(
 }
 
 // The first record's start, the count and the sum of the statement file that the bytes end in, or refusal 17 or 14.
-#[unsafe(no_mangle)]
-pub extern "C" fn mkb_check_statement(bytes: &[u8]) -> MkbStatement
+pub fn mkb_check_statement(bytes: &[u8]) -> MkbStatement
     ensures { result ≡ statement_of (read_said bytes.now) }
 {
     flat_statement(check(bytes))

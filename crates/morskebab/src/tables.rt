@@ -10,8 +10,7 @@ use flat::{MkbAmount, given_amount, pass_u32};
 
 // The principal and the balance after each period into the first places of `out`, one more than periods; the others, and every place where
 // the call is refused, stay as they stood. The answer is 0 or the refusal 2, 3, 4, 6, 10, 11 or 13.
-#[unsafe(no_mangle)]
-pub extern "C" fn mkb_compound(principal: MkbAmount, rate: i64, periods: i64, out: &mut [i64]) -> u8
+pub fn mkb_compound(principal: MkbAmount, rate: i64, periods: i64, out: &mut [i64]) -> u8
     ensures said { result ≡ refusal_of (table_said (amount_from principal) (passed32 rate) (passed32 periods) (length out.old)) }
     ensures places { out.new ≡ list_after (magnitude_of principal.coefficient) (passed32 rate) (table_said (amount_from principal) (passed32 rate) (passed32 periods) (length out.old)) out.old }
 {

@@ -12,8 +12,7 @@ use flat::{
 use text::{currency_of, read, write};
 
 // The amount that a text of the currency is: refusals 4, 14, 13.
-#[unsafe(no_mangle)]
-pub extern "C" fn mkb_read(currency: i64, text: &[u8]) -> MkbAmountAnswer
+pub fn mkb_read(currency: i64, text: &[u8]) -> MkbAmountAnswer
     ensures { result ≡ amount_answer_of (read_said (currency_from currency) text.now) }
 {
     flat_answer(read(given_currency(currency), text))
@@ -21,8 +20,7 @@ pub extern "C" fn mkb_read(currency: i64, text: &[u8]) -> MkbAmountAnswer
 
 // The amount's text into the first places of `out`, and its length; the others, and every place where the call is refused, stay as they stood:
 // refusals 2, 3, 4, 11.
-#[unsafe(no_mangle)]
-pub extern "C" fn mkb_write(a: MkbAmount, out: &mut [u8]) -> MkbWritten
+pub fn mkb_write(a: MkbAmount, out: &mut [u8]) -> MkbWritten
     ensures said { result ≡ written_of (write_said (amount_from a) (length out.old)) }
     ensures places { out.new ≡ buffer_after (text_of (amount_from a)) (write_said (amount_from a) (length out.old)) out.old }
 {
@@ -32,8 +30,7 @@ pub extern "C" fn mkb_write(a: MkbAmount, out: &mut [u8]) -> MkbWritten
 }
 
 // The number of the currency with this code, and 255 where the table has none.
-#[unsafe(no_mangle)]
-pub extern "C" fn mkb_currency_of(code: &[u8]) -> u8
+pub fn mkb_currency_of(code: &[u8]) -> u8
     ensures { result ≡ (currency_of code.now).0 }
 {
     let found = currency_of(code);

@@ -3,8 +3,7 @@ ghost use Rattle.std.specs.Prelude.{◌≡◌};
 ghost use Rattle.morskebab.specs.Version.{version_of};
 
 // 10,000 x major + 100 x minor + patch.
-#[unsafe(no_mangle)]
-pub extern "C" fn mkb_version() -> u32
+pub fn mkb_version() -> u32
     ensures { result ≡ version_of 3 0 0 }
 {
     30_000

@@ -10,16 +10,14 @@ use statement::place_after;
 use view::{open_at, read_at};
 
 // Where a view of the statement file that the bytes end in begins, or refusal 17 or 14.
-#[unsafe(no_mangle)]
-pub extern "C" fn mkb_first_payout(bytes: &[u8]) -> MkbFirst
+pub fn mkb_first_payout(bytes: &[u8]) -> MkbFirst
     ensures { result ≡ first_of (open_said bytes.now) }
 {
     flat_first(open_at(bytes))
 }
 
 // The record at a place, or that the view has ended, and the place of what comes next: behind the record, or the same where it has ended.
-#[unsafe(no_mangle)]
-pub extern "C" fn mkb_payout_at(bytes: &[u8], at: i64) -> MkbStep
+pub fn mkb_payout_at(bytes: &[u8], at: i64) -> MkbStep
     ensures { result ≡ step_of (step_at bytes.now (passed64 at)) (place_after false bytes.now (passed64 at)) }
 {
     let place = pass_u64(at) as usize;

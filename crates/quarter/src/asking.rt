@@ -5,7 +5,7 @@ ghost use Rattle.quarter.specs.Asking.{first_of, form_of, takes_of, unknown_of, 
 
 use crate::{Asked, First};
 use amount::Amount;
-use check::same;
+use console::same;
 use intake::{Given, amount_at, asks_nothing, next_word, read_numbers, u16_at};
 use spoken::{Form, Kind, read_words};
 

@@ -1,15 +1,14 @@
 -- From a check's answer to the answer of its call: what the check lets pass is the value, what it refuses is the call's refusal.
 -- Assumes nothing.
 use mathlib.Core.Path.{◌≡◌, refl, ap}
-use mathlib.Core.Bool.{Bool, true, false}
+use mathlib.Core.Bool.{true, false}
 use mathlib.Core.List.{List, [], ◌∷◌, ◌++◌}
 use Prim.Native.Nat.{ℕ}
 use native.Mathlib.Omega.{arith}
 use Rattle.refusal.specs.declared.Refusal.{Refusal}
-use Rattle.refusal.specs.declared.Checked.{Checked}
 use Rattle.refusal.specs.declared.Checked.TheVariants.{Passed, Refused}
 use Rattle.refusal.specs.Number.{number_of, blamed_of}
-use Rattle.refusal.specs.Rows.{Said, gives, refuses, Row, row, first_row, check_of}
+use Rattle.refusal.specs.Rows.{Said, refuses, Row, row, first_row, check_of}
 
 module _ {A : Type 0} (value : Said A) where
   pub passed : (rows : List Row) → check_of rows ≡ Passed → first_row rows value ≡ value

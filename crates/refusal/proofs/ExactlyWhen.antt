@@ -13,7 +13,7 @@ use Rattle.refusal.specs.declared.Refusal.{Refusal}
 use Rattle.refusal.specs.declared.Refusal.TheVariants.{Mode, Scale, Magnitude, Unknown, Differ, Rate, Date, Days, Weights, Negative, Room, Refund, Limit, Malformed, NoNet, NoNumber, Newer}
 use Rattle.refusal.specs.Number.{number_of, blamed_of}
 use Rattle.refusal.specs.Rank.{asked, rank_of}
-use Rattle.refusal.specs.Rows.{Said, gives, refuses, Row, row, number_at, holds_at, rank_at, first_row, rising_from, rising, Holds, here, later}
+use Rattle.refusal.specs.Rows.{Said, gives, refuses, Row, row, rank_at, first_row, rising_from, rising, Holds, here, later}
 
 -- number n is given by these rows, whatever the value would be
 unfoldable pub Given : {A : Type 0} → A → ℕ → List Row → Type 0

@@ -9,7 +9,7 @@ use Rattle.refusal.specs.Number.{number_of, blamed_of}
 use Rattle.refusal.specs.Rows.{Said, refuses, means_outcome}
 use Rattle.refusal.specs.declared.Checked.{Checked}
 use Rattle.refusal.specs.declared.Checked.TheVariants.{Passed, Refused}
-use mathlib.Core.List.{List, [], ◌∷◌}
+use mathlib.Core.List.{[], ◌∷◌}
 use lib.ListN.{get_or}
 
 -- the case that a number and a blamed date stand for

@@ -1,7 +1,7 @@
 -- The order in which rows are asked, as the two documents word it. Assumes nothing.
 use mathlib.Core.Path.{◌≡◌, refl}
-use mathlib.Core.List.{List, [], ◌∷◌, map}
-use Prim.Native.Nat.{ℕ, ◌<◌}
+use mathlib.Core.List.{[], ◌∷◌, map}
+use Prim.Native.Nat.{◌<◌}
 use native.Mathlib.Omega.{arith}
 use Rattle.refusal.specs.Rank.{rank_of}
 

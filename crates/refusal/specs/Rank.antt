@@ -1,7 +1,7 @@
 -- The order in which the rows of a call are asked. Document 01: "no row of a smaller number". Document 02 says of its own numbers: "Refusal 14
 -- ..., given before 13", "15 comes after 13 in the order", 16 "given only where no lower number applies", 17 "before 14". Cited by the
 -- law of "exactly when". Assumes nothing.
-use Rattle.std.specs.Prelude.{Bool, true, false, cond, List, [], ◌∷◌, ℕ, suc, eqb}
+use Rattle.std.specs.Prelude.{cond, List, [], ◌∷◌, ℕ, suc, eqb}
 
 -- the numbers, first asked first
 abbrev pub asked : List ℕ

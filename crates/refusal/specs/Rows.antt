@@ -1,6 +1,6 @@
 -- Document 01, "Refusal numbers": what a call says, and the rows of a call.
 -- Cited by the promises of every call. Assumes nothing.
-use Rattle.std.specs.Prelude.{◌≡◌, Bool, true, false, ◌&&◌, List, [], ◌∷◌, ℕ, ◌<◌, leb, ltb}
+use Rattle.std.specs.Prelude.{◌≡◌, Bool, true, false, ◌&&◌, List, [], ◌∷◌, ℕ, leb, ltb}
 use Rattle.refusal.specs.declared.Refusal.{Refusal}
 use Rattle.refusal.specs.declared.Refusal.TheVariants.{Rate}
 use Rattle.refusal.specs.declared.Checked.{Checked}

@@ -13,19 +13,18 @@ mod together;
 mod turns;
 
 use console::{FAILED, Source, end_with, open_source};
-use libc::STDOUT_FILENO;
 use turns::run_file;
 
-fn main() {
-    match open_source() {
+fn main(rt: HostRuntime) {
+    match open_source(&rt) {
         Source::Nowhere(status) => {
             if status == FAILED {
-                io::write_all(STDOUT_FILENO, b"end FAILED after 0 lines\n");
+                let _ = println!(rt; "end FAILED after 0 lines");
             }
-            end_with(status);
+            end_with(&rt, status);
         },
-        Source::From(fd) => {
-            end_with(run_file(fd));
+        Source::From(stream) => {
+            end_with(&rt, run_file(&rt, stream));
         },
     }
 }

@@ -6,12 +6,12 @@ use crate::reports::put_report;
 use crate::together::put_together;
 use book::Book;
 use console::{
-    BLEMISHED, CHECK_FAILED, FAILED, WELL, Waiting, make_room, put_named, refill, write_out,
+    BLEMISHED, BUFFER, CHECK_FAILED, FAILED, WELL, Waiting, make_room, put_named, refill, write_out,
 };
 use currency::line_of;
-use libc::STDERR_FILENO;
 use lines::put_bytes;
 use quarter::Opening;
+use std::io::Read;
 use std::num::wrapping_add_u64;
 
 // A payout to each partner for each call of a run.
@@ -91,6 +91,7 @@ fn due_calls(at: Gathering) -> usize {
 
 // With the report on a book or a card that ends behind those that wait.
 fn report(
+    rt: &(impl Print + Eprint),
     mut reports: Reports,
     at: Gathering,
     account: Account,
@@ -102,7 +103,7 @@ fn report(
     }
     let met = at.met;
     let waiting = reports.waiting;
-    let mut waiting = make_room(out, waiting, REPORT);
+    let mut waiting = make_room(rt, out, waiting, REPORT);
     let put = put_report(out, waiting.at, account, at);
     let put = put_together(out, put, account, ends_book(met));
     waiting.at = put.at;
@@ -151,7 +152,14 @@ fn go_on(at: Gathering, account: Account, text: &[u8]) -> Account {
 }
 
 // Where the next stretch begins: an opening and an accepted card count their lines anew, and more bytes come where a line's end is yet to come.
-fn move_on(fd: i32, mut at: Gathering, due: usize, ends: bool, text: &mut [u8]) -> Gathering {
+fn move_on(
+    rt: &impl Eprint,
+    reader: &mut impl Read,
+    mut at: Gathering,
+    due: usize,
+    ends: bool,
+    text: &mut [u8],
+) -> Gathering {
     let met = at.met;
     if 0 < due {
         at.count = 0;
@@ -167,7 +175,7 @@ fn move_on(fd: i32, mut at: Gathering, due: usize, ends: bool, text: &mut [u8]) 
         },
         Met::More => {
             let feed = at.feed;
-            at.feed = refill(fd, feed, text);
+            at.feed = refill(rt, reader, feed, text);
         },
         _ => {},
     }
@@ -175,13 +183,12 @@ fn move_on(fd: i32, mut at: Gathering, due: usize, ends: bool, text: &mut [u8]) 
 }
 
 // Says how many lines are done, where they are a million more.
-fn say(mut reports: Reports, lines: u64) -> Reports {
+fn say(rt: &impl Eprint, mut reports: Reports, lines: u64) -> Reports {
     let next = wrapping_add_u64(reports.said, SAID);
     if lines < next {
         return reports;
     }
-    io::print_decimal(STDERR_FILENO, next);
-    io::write_all(STDERR_FILENO, b" lines\n");
+    let _ = eprintln!(rt; "{next} lines");
     reports.said = next;
     reports
 }
@@ -200,13 +207,20 @@ fn put_end(out: &mut [u8], at: usize, lines: u64, failed: bool, unended: bool) -
 }
 
 // With the last line put, and all reports written, unless writing failed before.
-fn close(waiting: Waiting, lines: u64, failed: bool, unended: bool, out: &mut [u8]) -> Waiting {
+fn close(
+    rt: &(impl Print + Eprint),
+    waiting: Waiting,
+    lines: u64,
+    failed: bool,
+    unended: bool,
+    out: &mut [u8],
+) -> Waiting {
     if waiting.failed {
         return waiting;
     }
-    let mut last = make_room(out, waiting, REPORT);
+    let mut last = make_room(rt, out, waiting, REPORT);
     last.at = put_end(out, last.at, lines, failed, unended);
-    write_out(out, last)
+    write_out(rt, out, last)
 }
 
 // The status of the end: reading or writing failed, a check did, or a line was not accepted or has no end.
@@ -254,7 +268,8 @@ fn goes_on(rerun: Rerun) -> bool {
 
 // With what a stretch ended at dealt with: so many of the calls that waited were served.
 fn end_stretch(
-    fd: i32,
+    rt: &(impl Print + Eprint),
+    reader: &mut impl Read,
     mut rerun: Rerun,
     at: Gathering,
     account: Account,
@@ -263,19 +278,24 @@ fn end_stretch(
     out: &mut [u8],
 ) -> Rerun {
     let reports = rerun.reports;
-    let reports = say(reports, at.lines);
+    let reports = say(rt, reports, at.lines);
     let next = go_on(at, account, text);
     let met = at.met;
     let ends = ends_part(met, account.book.card, next.book.card);
-    rerun.reports = report(reports, at, account, ends, out);
+    rerun.reports = report(rt, reports, at, account, ends, out);
     rerun.account = next;
-    rerun.at = move_on(fd, at, due, ends, text);
+    rerun.at = move_on(rt, reader, at, due, ends, text);
     rerun
 }
 
 // Stretch by stretch: calls are gathered, and served where they can wait no more. A proved loop has to end, and nothing says that a file does: the
 // turns are counted down from a number that no run uses up.
-fn run_all(fd: i32, text: &mut [u8], out: &mut [u8]) -> Rerun {
+fn run_all(
+    rt: &(impl Print + Eprint),
+    reader: &mut impl Read,
+    text: &mut [u8],
+    out: &mut [u8],
+) -> Rerun {
     let mut refunds = [false; CALLS];
     let mut coefficients = [0i64; CALLS];
     let mut lines = [0u64; CALLS];
@@ -302,21 +322,21 @@ fn run_all(fd: i32, text: &mut [u8], out: &mut [u8]) -> Rerun {
             &mut payouts,
             &mut numbers,
         );
-        rerun = end_stretch(fd, rerun, at, ran, due, text, out);
+        rerun = end_stretch(rt, reader, rerun, at, ran, due, text, out);
     }
     rerun
 }
 
-// Runs the lines of what the descriptor reads, reports, and answers the status.
-pub(crate) fn run_file(fd: i32) -> u8 {
-    let mut text = io::large_buffer();
-    let mut out = io::large_buffer();
-    let rerun = run_all(fd, &mut text, &mut out);
+// Runs the lines of what the reader gives, reports, and answers the status.
+pub(crate) fn run_file(rt: &(impl Print + Eprint), mut reader: impl Read + Drop) -> u8 {
+    let mut text = [0u8; BUFFER];
+    let mut out = [0u8; BUFFER];
+    let rerun = run_all(rt, &mut reader, &mut text, &mut out);
     let at = rerun.at;
     let reports = rerun.reports;
     let unread = at.feed.failed;
     let waiting = reports.waiting;
-    let last = close(waiting, at.lines, unread, at.unended, &mut out);
+    let last = close(rt, waiting, at.lines, unread, at.unended, &mut out);
     let broken = if unread { true } else { last.failed };
     status_of(broken, reports.failed, reports.blemished, at.unended)
 }

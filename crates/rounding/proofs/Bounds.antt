@@ -1,17 +1,15 @@
 -- The rounded magnitude is the quotient or one more, and never over the numerator: it rises only where there is a rest.
 -- Assumes nothing.
 use mathlib.Core.Path.{◌≡◌, refl, sym, ◌∙◌, ap}
-use mathlib.Core.Bool.{Bool, true, false, not, cond, ◌&&◌}
-use Prim.Native.Nat.{ℕ, zero, suc, ◌+◌, ◌*◌, ◌/◌, ◌%◌, ◌<◌, ◌≤◌}
+use mathlib.Core.Bool.{Bool, true, false}
+use Prim.Native.Nat.{ℕ, zero, suc, ◌+◌, ◌/◌, ◌%◌, ◌<◌, ◌≤◌}
 use native.Mathlib.Decide.{ℕ_discrete}
 use native.Mathlib.Nat.{div-add-mod', le-mul_of_pos_right, div-le_self, add-zero}
 use native.Mathlib.Omega.{arith}
 use borrow.Author.Tests.{eq-eqb, ne_eqb}
-use lib.Dec.{eqb}
 use mir.Val.{bool_byte}
 use Rattle.rounding.specs.declared.Rule.{Rule}
 use Rattle.rounding.specs.declared.Rule.TheVariants.{Up, Down, Ceiling, Floor, HalfUp, HalfDown, HalfEven}
-use Rattle.rounding.specs.declared.Rest.{Rest}
 use Rattle.rounding.specs.declared.Rest.TheVariants.{Exact}
 use Rattle.rounding.specs.Modes.{rises_by}
 use Rattle.rounding.specs.Leaf.{rest_of, is_odd, raised, rounded_magnitude}

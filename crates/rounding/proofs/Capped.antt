@@ -1,12 +1,11 @@
 -- A rounded magnitude from a quotient that is capped one above 10^18: over it the magnitude is over it too, and within it the magnitude
 -- rises to one above at most. Where the product's quotient is known to be within, the leaf gives the rounded magnitude itself. Assumes nothing.
 use mathlib.Core.Path.{◌≡◌, refl, sym, ap, ◌∙◌}
-use mathlib.Core.Bool.{Bool, true, false, ◌&&◌}
+use mathlib.Core.Bool.{Bool, true, false}
 use Prim.Native.Nat.{ℕ, ◌+◌, ◌*◌, ◌/◌, ◌%◌, ◌<◌, ◌≤◌}
 use native.Mathlib.Decide.{dec_lt}
 use native.Mathlib.Omega.{arith}
 use borrow.Author.Tests.{lt-ltb, le-ltb, le-leb, lt-leb}
-use lib.Dec.{leb}
 use Rattle.division.specs.declared.Division.{Division}
 use Rattle.division.specs.Division.{most, within, too_large, division_of}
 use Rattle.division.proofs.Limits.{limits, inside}

@@ -1,6 +1,6 @@
 -- What the choice of a rule tells of its mode number: it was refused because the mode isn't 0 to 6, or it is the mode's rule.
 -- Assumes nothing.
-use mathlib.Core.Path.{◌≡◌, refl, sym, ◌∙◌, ap}
+use mathlib.Core.Path.{◌≡◌, refl, ap}
 use mathlib.Core.Bool.{Bool, true, false, cond}
 use mathlib.Core.List.{List, ◌∷◌}
 use Prim.Native.Nat.{ℕ}
@@ -10,7 +10,6 @@ use Rattle.refusal.specs.declared.Refusal.TheVariants.{Mode}
 use Rattle.refusal.specs.Number.{number_of, blamed_of}
 use Rattle.refusal.specs.Rows.{Said, refuses, Row, row, first_row}
 use Rattle.rounding.specs.declared.Rule.{Rule}
-use Rattle.rounding.specs.declared.Choice.{Choice}
 use Rattle.rounding.specs.declared.Choice.TheVariants.{Chosen, Refused}
 use Rattle.rounding.specs.Modes.{bad_mode, rule_of, choice_of}
 

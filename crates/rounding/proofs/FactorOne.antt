@@ -1,16 +1,16 @@
 -- A plain quotient by the factor 1 is document 01's plain quotient n / d, with its rows 1, 3 and 6 and no row 13: the factor 1 is within its
 -- limit and changes no numerator, and the rounded quotient is never farther from 0 than the numerator. Assumes nothing.
-use mathlib.Core.Path.{◌≡◌, refl, sym, ◌∙◌, ap}
+use mathlib.Core.Path.{◌≡◌, refl}
 use mathlib.Core.Bool.{Bool, true, false}
 use mathlib.Core.List.{List, [], ◌∷◌}
-use Prim.Native.Nat.{ℕ, ◌<◌, ◌≤◌}
+use Prim.Native.Nat.{ℕ, ◌≤◌}
 use native.Mathlib.Omega.{arith}
 use borrow.Author.Tests.{le-ltb, ltb-false}
 use lib.Dec.{ltb}
 use lib.IntN.{ℤ, pos}
 use Rattle.refusal.specs.declared.Refusal.TheVariants.{Mode, Magnitude, Rate, Limit}
 use Rattle.refusal.specs.Rows.{Said, gives, Row, row, first_row}
-use Rattle.whole.specs.Whole.{negative, magnitude_of, signed_of}
+use Rattle.whole.specs.Whole.{negative, magnitude_of}
 use Rattle.whole.proofs.Laws.{magnitude_signed}
 use Rattle.rounding.specs.declared.Rule.{Rule}
 use Rattle.rounding.specs.Modes.{bad_mode, rule_of}

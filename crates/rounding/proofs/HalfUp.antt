@@ -1,7 +1,7 @@
 -- HALF_UP is the quotient of a number that is greater by half the divisor, and it is the same for either sign. Assumes nothing.
 use mathlib.Core.Path.{◌≡◌, refl}
-use mathlib.Core.Bool.{Bool, true, false}
-use Prim.Native.Nat.{ℕ, ◌+◌, ◌*◌, ◌/◌, ◌%◌, ◌<◌, ◌≤◌}
+use mathlib.Core.Bool.{Bool, false}
+use Prim.Native.Nat.{ℕ, ◌+◌, ◌/◌, ◌%◌, ◌<◌, ◌≤◌}
 use native.Mathlib.Nat.{div-add-mod', div-eq_of_lt-le, mod-lt}
 use native.Mathlib.Omega.{arith}
 use Rattle.rounding.specs.declared.Rule.TheVariants.{HalfUp}

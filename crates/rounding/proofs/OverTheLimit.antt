@@ -1,7 +1,6 @@
 -- Document 02, Ask 7: "if the rounded quotient's magnitude is over 10^18 the leaf gives 13, and only then". Row 13 is the last, so that where the
 -- mode, the factors and the divisor are within their limits its test alone decides. Assumes nothing.
-use mathlib.Core.Path.{◌≡◌, refl, sym, ◌∙◌}
-use mathlib.Core.Bool.{Bool, true, false}
+use mathlib.Core.Path.{◌≡◌, sym, ◌∙◌}
 use mathlib.Core.List.{[], ◌∷◌}
 use mathlib.Core.Logic.{◌↔◌}
 use Prim.Native.Nat.{ℕ, ◌<◌, ◌≤◌}
@@ -11,7 +10,7 @@ use borrow.Author.Tests.{lt-ltb, le-ltb}
 use lib.Dec.{ltb}
 use lib.IntN.{ℤ}
 use Rattle.refusal.specs.declared.Refusal.TheVariants.{Limit}
-use Rattle.refusal.specs.Rows.{Said, gives, refuses, row, first_row}
+use Rattle.refusal.specs.Rows.{gives, refuses, row, first_row}
 use Rattle.whole.specs.Whole.{magnitude_of}
 use Rattle.rounding.specs.Modes.{bad_mode}
 use Rattle.rounding.specs.Plain.{limit, plain_rows, quotient_of, plain_said}

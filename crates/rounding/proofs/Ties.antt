@@ -2,14 +2,13 @@
 -- integers at most half a unit from n / d HALF_UP gives none nearer to zero than another, HALF_DOWN none farther, and HALF_EVEN an even one where
 -- there are two. Assumes nothing.
 use mathlib.Core.Path.{◌≡◌, ap, subst}
-use mathlib.Core.Bool.{Bool}
-use mathlib.Core.Logic.{◌⊎◌, ⊎_elim}
+use mathlib.Core.Logic.{⊎_elim}
 use Prim.Native.Nat.{ℕ, ◌+◌, ◌*◌, ◌/◌, ◌%◌, ◌<◌, ◌≤◌}
 use native.Mathlib.Decide.{dec_lt}
 use native.Mathlib.Nat.{div-add-mod', mul-le-mul_right}
 use native.Mathlib.Omega.{arith}
 use lib.IntN.{ℤ, pos, ◌*ℤ◌}
-use Rattle.whole.specs.Whole.{negative, magnitude_of, signed_of}
+use Rattle.whole.specs.Whole.{negative, magnitude_of}
 use Rattle.whole.proofs.Laws.{magnitude_signed}
 use Rattle.rounding.specs.declared.Rule.{Rule}
 use Rattle.rounding.specs.declared.Rule.TheVariants.{HalfUp, HalfDown, HalfEven}

@@ -1,8 +1,8 @@
 -- The calendar of a window, place by place, in the program's own variables: after i places the slots are the definition's, and `taken`
 -- counts the full units of those places that may have been taken by u. Assumes nothing.
-use mathlib.Core.Path.{◌≡◌, refl, sym, ap, ap₂, ◌∙◌}
+use mathlib.Core.Path.{◌≡◌, sym, ap, ap₂, ◌∙◌}
 use mathlib.Core.List.{List}
-use Prim.Native.Nat.{ℕ, suc, ◌+◌, ◌-◌, ◌*◌, ◌/◌, ◌≤◌, ◌<◌}
+use Prim.Native.Nat.{ℕ, ◌+◌, ◌-◌, ◌*◌, ◌/◌, ◌≤◌, ◌<◌}
 use native.Mathlib.Nat.{div-mul-le_self, mul-le-mul_right}
 use native.Mathlib.Omega.{arith}
 use lib.ListN.{length, get_or, replicate, length-replicate}
@@ -14,8 +14,8 @@ use Rattle.units.proofs.Calendar.{full_weighs}
 use Rattle.units.proofs.Slots.{length_fills}
 use Rattle.units.proofs.Loops.{sum_start, sum_step, fill_none, fills_start, fills_step, fills_end}
 use Rattle.units.proofs.Bounds.{fills_bound, lo_sum, full_bound}
-use Rattle.running.specs.Limits.{partners, weight_sum}
-use Rattle.running.specs.Running.{Shares, Starts, Listed, Empty, Laying, fill_by}
+use Rattle.running.specs.Limits.{partners}
+use Rattle.running.specs.Running.{Shares, Listed, Empty, Laying, fill_by}
 use Rattle.running.proofs.Fitting.{some_weight, weight_within}
 use Rattle.running.proofs.Laid.{fill_place_lem}
 

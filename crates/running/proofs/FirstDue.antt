@@ -1,6 +1,6 @@
 -- The scan for the place that is due first, in the program's own variables; and that it finds the rule's best place, where the due numbers
 -- are right of every place that may take the unit, and late of every other that the rule leaves out. Assumes nothing.
-use mathlib.Core.Path.{◌≡◌, refl, ap, ◌∙◌}
+use mathlib.Core.Path.{◌≡◌, refl}
 use mathlib.Core.Bool.{Bool, true, false, cond}
 use mathlib.Core.List.{List}
 use Prim.Native.Nat.{ℕ, ◌+◌, ◌*◌, ◌≤◌, ◌<◌}

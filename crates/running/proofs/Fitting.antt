@@ -2,13 +2,13 @@
 -- product of two such numbers is over 100,000,000. Assumes nothing.
 use mathlib.Core.Path.{◌≡◌, sym, ap, ◌∙◌}
 use mathlib.Core.List.{List}
-use Prim.Native.Nat.{ℕ, ◌+◌, ◌-◌, ◌*◌, ◌/◌, ◌≤◌, ◌<◌}
+use Prim.Native.Nat.{ℕ, ◌+◌, ◌-◌, ◌*◌, ◌≤◌, ◌<◌}
 use native.Mathlib.Nat.{mul-le-mul, div-le_self}
 use native.Mathlib.Omega.{arith}
 use lib.ListN.{length, get_or}
 use Rattle.whole.specs.Sums.{sum_of}
 use Rattle.units.specs.Rule.{due}
-use Rattle.units.specs.Window.{places_sum, lo, mass_at, mass}
+use Rattle.units.specs.Window.{places_sum, mass_at, mass}
 use Rattle.units.proofs.Places.{places_same}
 use Rattle.units.proofs.Bounds.{lo_bound}
 use Rattle.running.specs.Limits.{partners, weight_sum, zeros}

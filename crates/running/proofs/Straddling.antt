@@ -3,21 +3,20 @@
 use mathlib.Core.Path.{◌≡◌, refl, ap, ◌∙◌}
 use mathlib.Core.Bool.{Bool, true, false, cond}
 use mathlib.Core.List.{List}
-use Prim.Native.Nat.{ℕ, ◌≤◌, ◌<◌}
+use Prim.Native.Nat.{ℕ, ◌<◌}
 use native.Mathlib.Decide.{ℕ_discrete}
 use native.Mathlib.Omega.{arith}
-use borrow.Author.Tests.{lt-ltb, le-ltb, eqb-true}
-use lib.Dec.{ltb, eqb}
+use borrow.Author.Tests.{lt-ltb}
+use lib.Dec.{eqb}
 use lib.ListN.{length, get_or, set, replicate, length-set}
 use lib.Seq.{get_or-set_same, get_or-set_other}
-use Rattle.whole.specs.Sums.{sum_of}
 use Rattle.whole.proofs.Sums.{get_d_noughts}
-use Rattle.units.specs.Rule.{may_take, due}
-use Rattle.units.specs.Window.{lo, may_straddle, due_straddle, straddler}
+use Rattle.units.specs.Rule.{due}
+use Rattle.units.specs.Window.{may_straddle, due_straddle, straddler}
 use Rattle.units.proofs.Loops.{scan_same}
-use Rattle.running.specs.Limits.{partners, weight_sum}
+use Rattle.running.specs.Limits.{partners}
 use Rattle.running.specs.Taking.{late, dues_by, may_now, first_due}
-use Rattle.running.specs.Running.{Shares, Small, Dues}
+use Rattle.running.specs.Running.{Shares}
 use Rattle.running.proofs.Fitting.{small, due_early, dues_are}
 
 -- the due numbers of the places not ahead, and late ones of those ahead

@@ -1,6 +1,6 @@
 -- What the face gives: the rule's running totals where the weights keep their rule, sixteen zeros where they do not; and no units between
 -- two net totals that are exchanged, since a running total never falls. Assumes nothing.
-use mathlib.Core.Path.{◌≡◌, refl, sym, ap, ap₂, ◌∙◌}
+use mathlib.Core.Path.{◌≡◌, sym, ap₂, ◌∙◌}
 use mathlib.Core.Bool.{true, false}
 use mathlib.Core.List.{List}
 use Prim.Native.Nat.{ℕ, ◌-◌, ◌≤◌, ◌<◌}

@@ -1,10 +1,10 @@
 -- The walk over a window's units, in the program's own variables: after unit t the list says who is ahead, and `settled` counts the full
 -- units that may have been taken by t and the straddlers taken. A unit with more settled than units before it is a full one; else as
 -- many are settled, and the unit goes to a straddler. Assumes nothing.
-use mathlib.Core.Path.{◌≡◌, refl, sym, ap, subst, ◌∙◌}
+use mathlib.Core.Path.{◌≡◌, refl, sym, ap, ◌∙◌}
 use mathlib.Core.List.{List}
-use Prim.Native.Nat.{ℕ, suc, ◌+◌, ◌-◌, ◌≤◌, ◌<◌}
-use native.Mathlib.Nat.{add-zero, sub_self}
+use Prim.Native.Nat.{ℕ, ◌+◌, ◌-◌, ◌≤◌, ◌<◌}
+use native.Mathlib.Nat.{add-zero}
 use native.Mathlib.Numerals.{add-one}
 use native.Mathlib.Omega.{arith}
 use lib.ListN.{length, get_or, set, replicate}
@@ -16,7 +16,7 @@ use Rattle.units.proofs.Straddler.{straddler_free}
 use Rattle.units.proofs.Window.{length_after, count_ahead, window_ahead}
 use Rattle.units.proofs.Loops.{next_full, next_straddle, count_start, count_step, units_start, units_step, full_step}
 use Rattle.units.proofs.Bounds.{full_bound, ahead_bound}
-use Rattle.running.specs.Limits.{partners, weight_sum}
+use Rattle.running.specs.Limits.{partners}
 use Rattle.running.specs.Taking.{number_of, first_due}
 use Rattle.running.specs.Running.{Shares, Starts, Listed}
 use Rattle.running.proofs.Fitting.{some_weight}
@@ -69,6 +69,10 @@ module _ (ws : List ℕ) (sum n : ℕ) (full : List ℕ) (u : ℕ) (s : Shares w
 
       pub settled_within : settled + get_or slots (t - u) 0 ≤ n + partners
       settled_within = omega (arith, settled_next, full_by_lem (t + 1), counted, ahead_bound ws n some t w.upto, long)
+
+      -- so with one more it is small
+      pub settled_small : settled + get_or slots (t - u) 0 ≤ 10016
+      settled_small = omega (arith, settled_within, s.part)
 
       module _ (inside : t < n) where
         -- a full unit

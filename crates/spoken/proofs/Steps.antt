@@ -1,26 +1,15 @@
 -- What a word is, by what was heard before it and by its bytes. Assumes nothing.
 use mathlib.Core.Path.{◌≡◌}
-use mathlib.Core.Bool.{Bool, true, false, ◌&&◌}
+use mathlib.Core.Bool.{true, false, ◌&&◌}
 use mathlib.Core.List.{List}
 use Prim.Native.Nat.{ℕ}
-use lib.ListN.{set}
 use Rattle.lines.specs.Reads.{number_at}
 use Rattle.lines.specs.declared.Word.{Word}
 use Rattle.text.specs.Codes.{currency_of}
 use Rattle.text.specs.Read.{read_said}
 use Rattle.spoken.specs.declared.Form.{Form}
 use Rattle.spoken.specs.declared.Heard.{Heard}
-use Rattle.spoken.specs.Hearing.{bytes_of, kind_at, is_unit, is_money, is_capital, more, number_step, code_step, text_step, step_of}
-use Rattle.spoken.specs.Reading.{put_one}
-
-module _ {A : Type 0} (two : Bool) (front last : A) (place : ℕ) (xs : List A) where
-  pub one_put : two ≡ false → (after : List A) → after ≡ set xs place last → after ≡ put_one two front last place xs
-  one_put e after is = rw e is
-
-  pub two_put
-      : two ≡ true → (middle : List A) → middle ≡ set xs place front → (behind : ℕ) → behind ≡ more place 1
-      → (after : List A) → after ≡ set middle behind last → after ≡ put_one two front last place xs
-  two_put e middle first behind b after is = rw e (rw (← b, ← first) is)
+use Rattle.spoken.specs.Hearing.{bytes_of, kind_at, is_unit, is_money, is_capital, number_step, code_step, text_step, step_of}
 
 module _ (line : List ℕ) (word : Word) (form : Form) (h : Heard) where
   pub as_text : h.awaited ≡ true → step_of line word form h ≡ text_step h (read_said h.currency (bytes_of line word))

@@ -1,6 +1,6 @@
 -- Words heard one after another: where there is no word more, what was read stays, however many turns are taken; so it is the line's. Assumes nothing.
-use mathlib.Core.Path.{◌≡◌, refl, sym, ◌∙◌, ap}
-use mathlib.Core.Bool.{Bool, true, false, cond}
+use mathlib.Core.Path.{◌≡◌, refl, ◌∙◌, ap}
+use mathlib.Core.Bool.{Bool, true, false}
 use mathlib.Core.List.{List}
 use Prim.Native.Nat.{ℕ, zero, suc, ◌+◌, ◌-◌, ◌≤◌, ◌<◌}
 use native.Mathlib.Numerals.{add-one}
@@ -78,9 +78,9 @@ module _ (line : List ℕ) (form : Form) where
           ap (turns line form first) z ∙ stays first s.words still (length line - s.words) ∙ s.is in
           (rw all e, (rw all refl, rw all refl))
 
-      pub empty_word_lem
+      pub empty_word
           : (spoken : Spoken) → spoken ≡ spoken_of heard → (word : Word) → word ≡ word_from line at → word.end ≤ word.start → Ended spoken
-      empty_word_lem spoken e word w h = ended spoken e (rw w at h)
+      empty_word spoken e word w h = ended spoken e (rw w at h)
 
       pub line_heard : (spoken : Spoken) → spoken ≡ spoken_of heard → length line ≤ at → Ended spoken
       line_heard spoken e h = ended spoken e (no_word line at h)

@@ -1,5 +1,5 @@
 -- The desk's paper, "Codes and texts": what a word of a line is, after those that were heard before it. Cited by `read_words`. Assumes nothing.
-use Rattle.std.specs.Prelude.{Bool, true, false, cond, ◌&&◌, ◌||◌, List, ℕ, ◌+◌, ◌-◌, leb, ltb, eqb, length, get_or, take, drop}
+use Rattle.std.specs.Prelude.{Bool, true, false, cond, ◌&&◌, List, ℕ, ◌+◌, ◌-◌, leb, ltb, eqb, length, get_or, take, drop}
 use Rattle.refusal.specs.Rows.{Said, gives, refuses}
 use Rattle.whole.specs.Whole.{negative, magnitude_of}
 use Rattle.lines.specs.Reads.{number_at}

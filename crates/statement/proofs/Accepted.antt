@@ -1,7 +1,7 @@
 -- What rows that pass tell of a file's numbers, and the other way about. Assumes nothing.
-use mathlib.Core.Path.{◌≡◌, refl, sym, ◌∙◌, ap, ap₂}
-use mathlib.Core.Bool.{Bool, true, false, not}
-use mathlib.Core.List.{List, ◌++◌}
+use mathlib.Core.Path.{◌≡◌, sym, ◌∙◌, ap, ap₂}
+use mathlib.Core.Bool.{Bool, false, not}
+use mathlib.Core.List.{List}
 use Prim.Native.Nat.{ℕ, ◌+◌, ◌*◌, ◌-◌, ◌≤◌, ◌<◌}
 use native.Mathlib.Omega.{arith}
 use borrow.Author.Tests.{ltb-false, eqb-true, not-false, le-ltb, eq-eqb}
@@ -14,7 +14,7 @@ use Rattle.refusal.proofs.Check.{clear}
 use Rattle.refusal.proofs.Joined.{both_passed, front_passed}
 use Rattle.whole.specs.Whole.{magnitude_of}
 use Rattle.currency.specs.Table.{last_currency}
-use Rattle.amount.specs.Amounts.{largest, over_l}
+use Rattle.amount.specs.Amounts.{largest}
 use Rattle.statement.specs.declared.Trailer.{Trailer}
 use Rattle.statement.specs.declared.SummaryOfAny.{SummaryOfAny}
 use Rattle.statement.specs.Bytes.{number_at, word_of, from_word}
@@ -160,8 +160,8 @@ module _ (reasons : Bool) (bytes : List ℕ) (place : ℕ) (t : Trailer) where
   abbrev behind : List Row
   behind = record_rows reasons bytes (first_of place t) t.count t.sum
 
-  pub file_of_lem : check_of (file_rows reasons bytes place t) ≡ Passed → File reasons bytes place t
-  file_of_lem e =
+  pub file_passed : check_of (file_rows reasons bytes place t) ≡ Passed → File reasons bytes place t
+  file_passed e =
       let first = first_of place t in
       let both = both_passed in_front behind e in
       let rows = clear behind both.1 in
@@ -186,7 +186,7 @@ module _ (reasons : Bool) (bytes : List ℕ) where
   accepted e =
       let rows = clear (version_rows reasons bytes) e in
       let long = rows.0 in
-      (ltb-false (length bytes) trailer_width long, file_of_lem reasons bytes (trailer_place bytes) (trailer_in bytes) (rw long at e))
+      (ltb-false (length bytes) trailer_width long, file_passed reasons bytes (trailer_place bytes) (trailer_in bytes) (rw long at e))
 
   pub accepts : trailer_width ≤ length bytes → File reasons bytes (trailer_place bytes) (trailer_in bytes) → check_of (version_rows reasons bytes) ≡ Passed
   unfolding version_rows

@@ -1,6 +1,6 @@
 -- From the check to the answer of a call that writes: a refusal leaves the buffer as it stood, else the file stands in it from the start on. Of both
 -- versions; what passes the rows of either keeps the limits of its file. Assumes nothing.
-use mathlib.Core.Path.{◌≡◌, refl, sym, ◌∙◌, ap, subst}
+use mathlib.Core.Path.{◌≡◌, sym, ◌∙◌, ap, subst}
 use mathlib.Core.Bool.{Bool, true, false, not, ◌||◌}
 use mathlib.Core.List.{List, []}
 use Prim.Native.Nat.{ℕ, suc, ◌+◌, ◌≤◌}
@@ -20,8 +20,8 @@ use Rattle.currency.specs.Table.{last_currency}
 use Rattle.amount.specs.Amounts.{largest}
 use Rattle.statement.specs.Bytes.{pasted}
 use Rattle.statement.specs.Files.{file_size, last_place, last_reason, most_records}
-use Rattle.statement.specs.Writing.{any_of, over_at, past_at, any_over, any_past, run_rows, write_rows, reasons_rows, end_in, buffer_after}
-use Rattle.statement.specs.Parts.{Few, Writable}
+use Rattle.statement.specs.Writing.{over_at, past_at, any_over, any_past, run_rows, write_rows, reasons_rows, end_in, buffer_after}
+use Rattle.statement.specs.Parts.{Writable}
 use Rattle.statement.proofs.Any.{or_left, or_right, each_not}
 
 -- what a promise says of an answer and the buffer afterwards, by what its call says, its file and the buffer before

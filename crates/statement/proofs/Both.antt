@@ -7,7 +7,6 @@ use mathlib.Core.List.{List, [], ◌∷◌}
 use Prim.Native.Nat.{ℕ, ◌+◌, ◌<◌}
 use native.Mathlib.Omega.{arith}
 use lib.IntN.{ℤ}
-use lib.ListN.{length}
 use Rattle.refusal.specs.declared.Refusal.TheVariants.{Malformed, Newer}
 use Rattle.refusal.specs.declared.Checked.TheVariants.{Passed}
 use Rattle.refusal.specs.Rows.{Said, gives, refuses, Row, row, first_row, check_of}
@@ -16,8 +15,8 @@ use Rattle.refusal.proofs.Joined.{same_value, let_pass, both_passed}
 use Rattle.statement.specs.declared.Summary.{Summary}
 use Rattle.statement.specs.declared.SummaryOfAny.{SummaryOfAny}
 use Rattle.statement.specs.Bytes.{number_at}
-use Rattle.statement.specs.Files.{version_of, record_width, trailer_width, Ends}
-use Rattle.statement.specs.Reading.{trailer_place, trailer_in, first_of, record_place, newer, read_rows, version_rows, summary_in, plainly, summary_of, read_said, reasons_in, any_rows, any_said}
+use Rattle.statement.specs.Files.{version_of, Ends}
+use Rattle.statement.specs.Reading.{trailer_place, trailer_in, first_of, record_place, newer, read_rows, version_rows, summary_in, summary_of, read_said, reasons_in, any_rows, any_said}
 use Rattle.statement.specs.Walking.{reasoned_at}
 use Rattle.statement.proofs.ReadBack.{Bytes}
 use Rattle.statement.proofs.Held.{file_accepted, file_summary, version_is}

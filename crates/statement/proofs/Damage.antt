@@ -3,7 +3,7 @@
 use mathlib.Core.Path.{◌≡◌, refl, sym, ◌∙◌, ap, ap₂, subst}
 use mathlib.Core.Bool.{Bool, true, false}
 use mathlib.Core.List.{List, [], ◌∷◌}
-use Prim.Native.Nat.{ℕ, zero, suc, ◌+◌, ◌*◌, ◌-◌, ◌≤◌, ◌<◌, ◌^◌}
+use Prim.Native.Nat.{ℕ, ◌+◌, ◌*◌, ◌-◌, ◌≤◌, ◌<◌}
 use native.Mathlib.Decide.{dec_lt}
 use native.Mathlib.Nat.{mul-le-mul_left}
 use native.Mathlib.Omega.{arith}
@@ -17,10 +17,10 @@ use Rattle.statement.specs.declared.Summary.{Summary}
 use Rattle.statement.specs.declared.SummaryOfAny.{SummaryOfAny}
 use Rattle.statement.specs.Bytes.{number_at, word_of, from_word}
 use Rattle.statement.specs.Files.{version_of, record_width, code_bytes, code_zeros, trailer_width, total_of, most_records, Ends}
-use Rattle.statement.specs.Reading.{trailer_place, trailer_at, trailer_in, first_of, record_place, coefficients_in, agreed_in, newer, version_rows, read_rows, summary_of, read_said, any_said}
+use Rattle.statement.specs.Reading.{trailer_place, trailer_at, record_place, coefficients_in, agreed_in, newer, version_rows, read_rows, summary_of, read_said, any_said}
 use Rattle.statement.specs.Parts.{Few}
 use Rattle.statement.proofs.ReadBack.{Bytes, number_below}
-use Rattle.statement.proofs.Words.{from_word_of, word_from_lem}
+use Rattle.statement.proofs.Words.{from_word_of, word_from}
 use Rattle.statement.proofs.Totals.{total_same, total_within}
 use Rattle.statement.proofs.Widths.{wide, parts}
 use Rattle.statement.proofs.Changed.{number_beside, number_before, still_bytes, number_other, total_other}
@@ -163,9 +163,9 @@ module _ (reasons : Bool) (bytes : List ℕ) (b : Bytes bytes) (k x : ℕ) (byte
         ∙ from_word_of (total_of g count) (total_within g count (small_sum reasons bytes place old) count (omega arith)) in
         let here : f i ≡ g i = total_other f g i count h (beside) totals in
         differs (record_place width first i + 8) 8 (omega arith) (omega arith)
-        (sym (word_from_lem (number_at after (record_place width first i + 8) 8) (number_below after (still_bytes bytes k x b byte inside other) (record_place width first i + 8) 8))
+        (sym (word_from (number_at after (record_place width first i + 8) 8) (number_below after (still_bytes bytes k x b byte inside other) (record_place width first i + 8) 8))
         ∙ ap word_of here
-        ∙ word_from_lem (number_at bytes (record_place width first i + 8) 8) (number_below bytes b (record_place width first i + 8) 8))
+        ∙ word_from (number_at bytes (record_place width first i + 8) 8) (number_below bytes b (record_place width first i + 8) 8))
       where
         beside : (j : ℕ) → j < count → (j ≡ i → ⊥) → coefficients_in after width first j ≡ coefficients_in bytes width first j
         beside j less not = ap from_word (go (dec_lt i j))

@@ -11,9 +11,8 @@ use Rattle.statement.specs.declared.SummaryOfAny.{SummaryOfAny}
 use Rattle.statement.specs.declared.AnyStep.{AnyStep}
 use Rattle.statement.specs.declared.AnyStep.TheVariants.{Next as AnyNext, End as AnyEnd}
 use Rattle.statement.specs.Files.{Piece, file_of, total_of, most_records, Sound, Ends}
-use Rattle.statement.specs.Walking.{any_step, walked}
 use Rattle.statement.proofs.Both.{reasons_is, any_file_said}
-use Rattle.statement.proofs.Handed.{reasoned_of, handed_out}
+use Rattle.statement.proofs.Handed.{handed_out}
 
 -- records that a file of a version may hold
 pub record Records (reasons : Bool) (piece : ℕ → Piece) (count : ℕ) : Type 0 where

@@ -1,8 +1,8 @@
 -- Bytes that are accepted end in a file of the definition: its records are those that are read. Assumes nothing.
 use mathlib.Core.Path.{◌≡◌, refl, sym, ◌∙◌, ap, ap₂, subst}
 use mathlib.Core.Bool.{Bool}
-use mathlib.Core.List.{List, [], ◌∷◌, ◌++◌}
-use Prim.Native.Nat.{ℕ, zero, suc, ◌+◌, ◌*◌, ◌-◌, ◌≤◌, ◌<◌, ◌^◌}
+use mathlib.Core.List.{List, ◌++◌}
+use Prim.Native.Nat.{ℕ, ◌+◌, ◌*◌, ◌≤◌, ◌<◌}
 use native.Mathlib.Decide.{dec_lt}
 use native.Mathlib.Omega.{arith}
 use lib.IntN.{ℤ}
@@ -10,12 +10,12 @@ use lib.ListN.{length, take, drop, take-append-drop, length-drop}
 use lib.Seq.{length-take-le, take_all, drop-drop}
 use Rattle.currency.specs.Table.{last_currency}
 use Rattle.statement.specs.declared.Trailer.{Trailer}
-use Rattle.statement.specs.Bytes.{Field, field, field_bytes, number_at, word_of, from_word}
-use Rattle.statement.specs.Files.{Piece, version_of, record_width, code_bytes, record_fields, record_bytes, trailer_width, trailer_fields, trailer_bytes, joined, total_of, file_of, most_records, Sound, Ends}
+use Rattle.statement.specs.Bytes.{Field, number_at, word_of, from_word}
+use Rattle.statement.specs.Files.{Piece, version_of, record_width, code_bytes, record_fields, record_bytes, trailer_width, trailer_fields, trailer_bytes, joined, total_of, file_of, Ends}
 use Rattle.statement.specs.Reading.{trailer_place, trailer_at, trailer_in, first_of, record_place, coefficient_at, coefficients_in, agreed_in}
 use Rattle.statement.proofs.ReadBack.{Bytes, number_below}
-use Rattle.statement.proofs.Words.{word_from_lem}
-use Rattle.statement.proofs.Fields.{Reads, width_of, fields_written}
+use Rattle.statement.proofs.Words.{word_from}
+use Rattle.statement.proofs.Fields.{width_of, fields_written}
 use Rattle.statement.proofs.Behind.{joined_taken}
 use Rattle.statement.proofs.Widths.{parts}
 use Rattle.statement.proofs.Walk.{record_inside}
@@ -34,7 +34,7 @@ module _ (reasons : Bool) (bytes : List ℕ) (b : Bytes bytes) where
   width = record_width reasons
 
   word_back : (at : ℕ) → number_at bytes at 8 ≡ word_of (from_word (number_at bytes at 8))
-  word_back at = sym (word_from_lem (number_at bytes at 8) (number_below bytes b at 8))
+  word_back at = sym (word_from (number_at bytes at 8) (number_below bytes b at 8))
 
   -- the bytes of a record that keeps the rule are those of what it says
   record_taken : (agreed at : ℕ) → GoodAt reasons bytes agreed at → at + width ≤ length bytes → take width (drop at bytes) ≡ record_bytes reasons (piece_at reasons bytes at)

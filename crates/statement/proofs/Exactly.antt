@@ -1,11 +1,11 @@
 -- "it accepts exactly such files": `check` gives a start, a count and a sum exactly where the bytes end in a file of version 1 that has them, 17 exactly
 -- where their last 24 bytes hold version 2 and six zeros, and 14 for all others. Of either version by one argument. Assumes nothing.
-use mathlib.Core.Path.{◌≡◌, refl, sym, ◌∙◌, ap, subst}
+use mathlib.Core.Path.{◌≡◌, sym, ◌∙◌, ap, subst}
 use mathlib.Core.Logic.{◌↔◌}
 use mathlib.Core.Bool.{Bool, true, false}
 use mathlib.Core.List.{List, [], ◌∷◌}
 use Prim.Native.Nat.{ℕ}
-use borrow.Author.Tests.{eq-eqb, le-ltb}
+use borrow.Author.Tests.{le-ltb}
 use lib.IntN.{ℤ}
 use lib.ListN.{length}
 use native.Mathlib.Omega.{arith}
@@ -16,8 +16,8 @@ use Rattle.refusal.proofs.Check.{passed}
 use Rattle.refusal.proofs.Joined.{same_value, let_pass, both_passed}
 use Rattle.statement.specs.declared.Summary.{Summary}
 use Rattle.statement.specs.declared.SummaryOfAny.{SummaryOfAny}
-use Rattle.statement.specs.Files.{version_of, trailer_width, Ends}
-use Rattle.statement.specs.Reading.{trailer_in, newer, read_rows, version_rows, summary_in, plainly, summary_of, read_said}
+use Rattle.statement.specs.Files.{trailer_width, Ends}
+use Rattle.statement.specs.Reading.{newer, read_rows, version_rows, summary_in, plainly, summary_of, read_said}
 use Rattle.statement.proofs.ReadBack.{Bytes}
 use Rattle.statement.proofs.Held.{bytes_long, file_accepted, file_summary, version_is, zeros_are}
 use Rattle.statement.proofs.Ending.{ends}

@@ -1,7 +1,7 @@
 -- Fields that stand in bytes are read there as their numbers, and bytes that are read as some fields' numbers are these fields. Assumes nothing.
-use mathlib.Core.Path.{◌≡◌, refl, sym, ◌∙◌, ap, ap₂}
+use mathlib.Core.Path.{◌≡◌, refl, sym, ◌∙◌, ap, ap₂, subst}
 use mathlib.Core.List.{List, [], ◌∷◌, ◌++◌, append_assoc}
-use Prim.Native.Nat.{ℕ, zero, suc, ◌+◌, ◌≤◌, ◌<◌, ◌^◌}
+use Prim.Native.Nat.{ℕ, ◌+◌, ◌≤◌, ◌<◌, ◌^◌}
 use native.Mathlib.Omega.{arith}
 use lib.ListN.{length, take, drop, length-append}
 use lib.Seq.{take-add, drop-drop}
@@ -40,7 +40,7 @@ fields_read front back at off (field count number ∷ fields) e fit =
     let long : length (front ++ here) ≡ at + (off + count) =
     length-append front here ∙ omega (arith, e, length_little count number) in (
       ap (λ (l : List ℕ). number_at l (at + off) count) one ∙ read_back front (rest ++ back) count number (at + off) e fit.0,
-      rw other (fields_read (front ++ here) back at (off + count) fields long fit.1),
+      subst (λ (l : List ℕ). Reads l at (off + count) fields) (sym other) (fields_read (front ++ here) back at (off + count) fields long fit.1),
     )
 
 pub fields_written : (bytes : List ℕ) → Bytes bytes → (at off : ℕ) (fields : List Field) → at + off + width_of fields ≤ length bytes

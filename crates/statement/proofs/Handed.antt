@@ -1,23 +1,21 @@
 -- Document 02, Ask 11: a walk over a statement "hands out the records in file order, each once, then says that it has ended and goes on saying so. The
 -- records, as read, add to the trailer's sum." Of either version, by one argument over the width. Assumes nothing.
-use mathlib.Core.Path.{◌≡◌, refl, sym, ◌∙◌, ap, ap₂}
+use mathlib.Core.Path.{◌≡◌, refl, ◌∙◌, ap}
 use mathlib.Core.Bool.{Bool, true, false, cond}
 use mathlib.Core.List.{List}
-use Prim.Native.Nat.{ℕ, zero, suc, ◌+◌, ◌*◌, ◌≤◌, ◌<◌}
+use Prim.Native.Nat.{ℕ, zero, suc, ◌+◌, ◌≤◌, ◌<◌}
 use native.Mathlib.Decide.{dec_lt}
 use native.Mathlib.Nat.{mul-le-mul_left}
 use native.Mathlib.Omega.{arith}
 use borrow.Author.Tests.{lt-ltb, le-ltb}
 use lib.IntN.{ℤ}
 use lib.ListN.{length}
-use Rattle.statement.specs.declared.Payout.{Payout}
 use Rattle.statement.specs.declared.Reasoned.{Reasoned}
 use Rattle.statement.specs.declared.Step.{Step}
 use Rattle.statement.specs.declared.Step.TheVariants.{Next, End}
 use Rattle.statement.specs.declared.AnyStep.{AnyStep}
 use Rattle.statement.specs.declared.AnyStep.TheVariants.{Next as AnyNext, End as AnyEnd}
-use Rattle.statement.specs.Bytes.{number_at}
-use Rattle.statement.specs.Files.{Piece, version_of, record_width, code_bytes, trailer_width, total_of, Ends}
+use Rattle.statement.specs.Files.{Piece, version_of, record_width, trailer_width, total_of, Ends}
 use Rattle.statement.specs.Reading.{record_place, coefficient_at}
 use Rattle.statement.specs.Walking.{reasoned_at, payout_of, ended, any_step, place_after, walked, step_at, any_step_at, any_place_after}
 use Rattle.statement.proofs.Totals.{total_same}

@@ -1,23 +1,23 @@
 -- A record's first eight bytes as one number, and what stands behind its coefficient as another: what they say of the numbers in them. Assumes nothing.
 use mathlib.Core.Path.{◌≡◌, refl, sym, ◌∙◌, ap, ap₂}
-use mathlib.Core.Bool.{Bool, true, false, not, ◌||◌}
+use mathlib.Core.Bool.{Bool, true, false, ◌||◌}
 use mathlib.Core.List.{List}
-use Prim.Native.Nat.{ℕ, zero, suc, ◌+◌, ◌*◌, ◌/◌, ◌^◌, ◌≤◌, ◌<◌}
+use Prim.Native.Nat.{ℕ, zero, suc, ◌+◌, ◌*◌, ◌/◌, ◌^◌, ◌≤◌}
 use native.Mathlib.Nat.{pow-suc}
 use native.Mathlib.Omega.{arith}
 use borrow.Author.Tests.{ltb-false, le-ltb, eq-eqb}
-use lib.Dec.{ltb, eqb}
+use lib.Dec.{ltb}
 use lib.ListN.{get_or}
 use Rattle.whole.specs.Whole.{magnitude_of}
 use Rattle.currency.specs.Table.{last_currency}
 use Rattle.amount.specs.Amounts.{largest, over_l}
 use Rattle.statement.specs.Bytes.{number_at, from_word}
-use Rattle.statement.specs.Files.{record_width, code_bytes, code_zeros, last_place, last_reason}
-use Rattle.statement.specs.Reading.{bad_numbers, bad_code, bad_record}
+use Rattle.statement.specs.Files.{record_width, code_bytes, code_zeros, last_place}
+use Rattle.statement.specs.Reading.{bad_code, bad_record}
 use Rattle.statement.specs.Parts.{bad_head}
 use Rattle.statement.proofs.ReadBack.{Bytes, number_below}
 use Rattle.statement.proofs.Any.{or_left, or_right}
-use Rattle.statement.proofs.Accepted.{Good, GoodAt, good_at, not_bad_at, good_code, not_bad_code, same_not}
+use Rattle.statement.proofs.Accepted.{good_at, not_bad_at, good_code, not_bad_code, same_not}
 
 -- two tests of which neither fails alone
 both_or_none : (a b : Bool) → (a ≡ false → b ≡ false) → (b ≡ false → a ≡ false) → a ≡ b

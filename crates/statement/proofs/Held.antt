@@ -1,8 +1,8 @@
 -- Bytes that end in a file of the definition are accepted, and the answer is the file's start, count and sum. Assumes nothing.
 use mathlib.Core.Path.{◌≡◌, refl, sym, ◌∙◌, ap, ap₂, subst}
 use mathlib.Core.Bool.{Bool}
-use mathlib.Core.List.{List, [], ◌∷◌, ◌++◌, append_assoc, append-nil}
-use Prim.Native.Nat.{ℕ, suc, ◌+◌, ◌*◌, ◌-◌, ◌≤◌, ◌<◌, ◌^◌}
+use mathlib.Core.List.{List, [], ◌++◌, append_assoc, append-nil}
+use Prim.Native.Nat.{ℕ, ◌+◌, ◌*◌, ◌-◌, ◌≤◌, ◌<◌, ◌^◌}
 use native.Mathlib.Nat.{mul-le-mul}
 use native.Mathlib.Omega.{arith}
 use lib.IntN.{ℤ}
@@ -12,9 +12,8 @@ use Rattle.refusal.specs.Rows.{check_of}
 use Rattle.whole.specs.Whole.{magnitude_of}
 use Rattle.amount.specs.Amounts.{largest}
 use Rattle.statement.specs.declared.Trailer.{Trailer}
-use Rattle.statement.specs.declared.SummaryOfAny.{SummaryOfAny}
-use Rattle.statement.specs.Bytes.{Field, field, field_bytes, number_at, word_of, from_word}
-use Rattle.statement.specs.Files.{Piece, version_of, record_width, code_zeros, record_fields, record_bytes, trailer_width, trailer_fields, trailer_bytes, joined, total_of, file_of, most_records, last_reason, Sound, Ends}
+use Rattle.statement.specs.Bytes.{Field, field_bytes, number_at, word_of, from_word}
+use Rattle.statement.specs.Files.{version_of, record_width, code_zeros, record_fields, record_bytes, trailer_width, trailer_fields, trailer_bytes, joined, total_of, file_of, most_records, last_reason, Ends}
 use Rattle.statement.specs.Reading.{trailer_place, trailer_at, trailer_in, first_of, record_place, coefficients_in, agreed_in, version_rows, summary_in}
 use Rattle.statement.specs.Parts.{Few}
 use Rattle.statement.proofs.Words.{word_below, from_word_of}

@@ -1,15 +1,14 @@
 -- Document 02's own bytes, by computing both sides. Assumes nothing.
 use mathlib.Core.Path.{◌≡◌, refl}
-use mathlib.Core.Bool.{true, ◌||◌}
+use mathlib.Core.Bool.{true}
 use mathlib.Core.List.{List, [], ◌∷◌, ◌++◌}
 use Prim.Native.Nat.{ℕ}
-use lib.IntN.{ℤ, pos, negsuc}
-use lib.ListN.{length}
+use lib.IntN.{pos, negsuc}
 use Rattle.refusal.specs.Rows.{gives, refuses}
 use Rattle.currency.specs.Names.{EUR}
-use Rattle.statement.specs.Bytes.{little_endian, number_at, word_of, from_word, field_bytes, pasted}
+use Rattle.statement.specs.Bytes.{little_endian, number_at, word_of, from_word, field_bytes}
 use Rattle.statement.specs.Files.{Piece, record_bytes, trailer_bytes, joined, total_of, file_of, file_bytes}
-use Rattle.statement.specs.Writing.{any_of, write_rows, reasons_rows, payout_with, payout, write_said, reasons_said, buffer_after}
+use Rattle.statement.specs.Writing.{any_of, reasons_rows, payout_with, payout, reasons_said}
 use Rattle.statement.specs.Reading.{trailer_at, bad_record, newer, version_rows, read_rows, summary_in, read_said, any_rows, any_said}
 
 -- "place 2, euro, -12.50"

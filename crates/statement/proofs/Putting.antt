@@ -1,7 +1,7 @@
 -- A loop that puts a number's bytes into a list from a place on: its start, a turn and its end. Assumes nothing.
 use mathlib.Core.Path.{◌≡◌, refl, sym, ◌∙◌, ap, ap₂}
 use mathlib.Core.List.{List, [], ◌∷◌, ◌++◌, append_assoc, append-nil}
-use Prim.Native.Nat.{ℕ, zero, suc, ◌+◌, ◌-◌, ◌/◌, ◌%◌, ◌≤◌, ◌<◌}
+use Prim.Native.Nat.{ℕ, suc, ◌+◌, ◌-◌, ◌/◌, ◌%◌, ◌≤◌, ◌<◌}
 use native.Mathlib.Numerals.{add-one}
 use native.Mathlib.Omega.{arith}
 use lib.ListN.{length, get_or, drop, set, length-append}
@@ -19,9 +19,6 @@ rest_same e = cc
 module _ (out : List ℕ) (at count number : ℕ) where
   abbrev new : List ℕ
   new = little_endian count number
-
-  pub put_start : drop 0 new ≡ little_endian (count - 0) number
-  put_start = let all : count ≡ count - 0 = omega arith in ap (λ (k : ℕ). little_endian k number) all
 
   module _ (i rest : ℕ) (more : i < count) (left : drop i new ≡ little_endian (count - i) rest) where
     split : get_or new i 0 ∷ drop (suc i) new ≡ rest % 256 ∷ little_endian (count - (i + 1)) (rest / 256)

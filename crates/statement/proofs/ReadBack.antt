@@ -2,10 +2,10 @@
 use mathlib.Core.Path.{◌≡◌, refl, sym, ◌∙◌, ap, ap₂}
 use mathlib.Core.List.{List, [], ◌∷◌, ◌++◌}
 use Prim.Native.Nat.{ℕ, zero, suc, ◌+◌, ◌*◌, ◌-◌, ◌/◌, ◌%◌, ◌^◌, ◌≤◌, ◌<◌}
-use native.Mathlib.Nat.{lt_of_lt_of_le, pow-le-pow_right, pow-suc, mod-add-div, add-mul-mod_self_left, add-mul-div_left}
+use native.Mathlib.Nat.{lt_of_lt_of_le, pow-le-pow_right, pow-suc, mod-add-div}
 use native.Mathlib.Omega.{arith}
 use lib.ListN.{length, get_or, take, drop, length-append}
-use lib.Seq.{append_snoc, drop-cons, get_or_at, take-nil, drop-nil}
+use lib.Seq.{append_snoc, drop-cons, get_or_at}
 use Rattle.statement.specs.Bytes.{little_endian, number_at}
 
 -- what a list of bytes is
@@ -57,23 +57,16 @@ unfolding number_at
 none_read bytes at count = let none : 0 ≡ count - count = omega arith in ap (number_at bytes (at + count)) none
 
 -- one byte more
-pub number_step_lem : (bytes : List ℕ) (at i count number byte : ℕ) → 0 < i → i ≤ count → number ≡ number_at bytes (at + i) (count - i)
+pub number_step : (bytes : List ℕ) (at i count number byte : ℕ) → 0 < i → i ≤ count → number ≡ number_at bytes (at + i) (count - i)
     → byte ≡ get_or bytes (at + (i - 1)) 0 → number * 256 + byte ≡ number_at bytes (at + (i - 1)) (count - (i - 1))
 unfolding number_at
-number_step_lem bytes at i count number byte some h is here =
+number_step bytes at i count number byte some h is here =
     let behind : suc (at + (i - 1)) ≡ at + i = omega arith in
     let more : suc (count - i) ≡ count - (i - 1) = omega arith in
     let all : number * 256 + byte ≡ get_or bytes (at + (i - 1)) 0 + 256 * number_at bytes (at + i) (count - i) = omega (arith, is, here) in
     all
     ∙ ap (λ (k : ℕ). get_or bytes (at + (i - 1)) 0 + 256 * number_at bytes k (count - i)) (sym behind)
     ∙ ap (number_at bytes (at + (i - 1))) more
-
--- all of them
-pub all_read : (bytes : List ℕ) (at count i : ℕ) → i ≡ 0 → number_at bytes (at + i) (count - i) ≡ number_at bytes at count
-all_read bytes at count i none =
-    let here : at + i ≡ at = omega arith in
-    let all : count - i ≡ count = omega arith in
-    ap₂ (number_at bytes) here all
 
 -- and it still fits a word, where there are fewer than eight so far
 pub number_fits : (bytes : List ℕ) → Bytes bytes → (at k : ℕ) → k ≤ 7 → number_at bytes at k < 256 ^ 7

@@ -1,13 +1,13 @@
 -- A loop that puts records into a buffer from a start on: its start, a turn and its end. Assumes nothing.
-use mathlib.Core.Path.{◌≡◌, refl, sym, ◌∙◌, ap}
+use mathlib.Core.Path.{◌≡◌, sym, ◌∙◌, ap}
 use mathlib.Core.Bool.{Bool, true, false}
 use mathlib.Core.List.{List, [], ◌++◌}
-use Prim.Native.Nat.{ℕ, ◌+◌, ◌*◌, ◌≤◌, ◌<◌}
+use Prim.Native.Nat.{ℕ, ◌+◌, ◌*◌, ◌≤◌}
 use native.Mathlib.Omega.{arith}
 use lib.ListN.{length}
-use Rattle.statement.specs.Bytes.{field_bytes, pasted}
+use Rattle.statement.specs.Bytes.{pasted}
 use Rattle.statement.specs.Files.{Piece, record_width, record_fields, record_bytes, joined, trailer_fields, trailer_bytes, trailer_width}
-use Rattle.statement.proofs.Pasting.{length_pasted, paste_nothing, paste_behind}
+use Rattle.statement.proofs.Pasting.{paste_nothing, paste_behind}
 use Rattle.statement.proofs.Behind.{joined_none, joined_more, length_joined}
 use Rattle.statement.proofs.Fields.{length_fields}
 use lib.IntN.{ℤ}
@@ -26,9 +26,6 @@ module _ (f : ℕ → List ℕ) (width : ℕ) (each : (i : ℕ) → length (f i)
   run_start = paste_nothing start [] out ∙ ap (λ (l : List ℕ). pasted start l out) (sym (joined_none f))
 
   module _ (i : ℕ) (held : List ℕ) (so_far : held ≡ pasted start (joined f i) out) where
-    pub run_length : start + width * i ≤ length out → length held ≡ length out
-    run_length h = ap length so_far ∙ length_pasted start (joined f i) out (omega (arith, length_joined f width each i))
-
     -- what is put in behind the records
     pub run_behind : (new after : List ℕ) (at : ℕ) → at ≡ start + width * i → start ≤ length out → after ≡ pasted at new held
         → after ≡ pasted start (joined f i ++ new) out

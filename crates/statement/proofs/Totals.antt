@@ -1,5 +1,5 @@
 -- The sum of at most 4,000 coefficients within L is far from the limits of an i64; sums of the same numbers are the same. Assumes nothing.
-use mathlib.Core.Path.{◌≡◌, refl, sym, ◌∙◌, ap, ap₂}
+use mathlib.Core.Path.{◌≡◌, refl, ◌∙◌, ap₂}
 use Prim.Native.Nat.{ℕ, zero, suc, ◌+◌, ◌*◌, ◌≤◌, ◌<◌, ◌^◌}
 use native.Mathlib.Nat.{mul-le-mul_right, le_trans}
 use native.Mathlib.Numerals.{add-one}
@@ -54,17 +54,14 @@ module _ (f : ℕ → ℤ) (count : ℕ) (small : Few f count) where
 pub held_within : (z : ℤ) → magnitude_of z ≤ largest → to_z w64 (of_z w64 z) ≡ z
 held_within z h = to_z-of_z w64 z (fits z (omega arith))
 
--- a loop that sums, its sum as the machine holds it: a turn and its end
-module _ (f : ℕ → ℤ) (count : ℕ) (small : Few f count) (n held : ℕ) (so_far : held ≡ of_z w64 (total_of f n)) where
-  pub sum_read : n ≤ count → to_z w64 held ≡ total_of f n
-  sum_read h = ap (to_z w64) so_far ∙ to_z-of_z w64 (total_of f n) (fits (total_of f n) (total_within f count small n h))
+-- a loop that sums: a turn
+module _ (f : ℕ → ℤ) (count : ℕ) (small : Few f count) (n : ℕ) (sum : ℤ) (so_far : sum ≡ total_of f n) (more : n < count) (y : ℤ) (is : y ≡ f n) where
+  next : sum +ℤ y ≡ total_of f n +ℤ f n
+  next = ap₂ (λ (a b : ℤ). a +ℤ b) so_far is
 
-  module _ (more : n < count) (y : ℤ) (is : y ≡ f n) where
-    next : to_z w64 held +ℤ y ≡ total_of f n +ℤ f n
-    next = ap₂ (λ (a b : ℤ). a +ℤ b) (sum_read (omega arith)) is
+  pub sum_fits : SFits w64 (sum +ℤ y)
+  sum_fits = rw next (next_fits f count small n more)
 
-    pub sum_fits : SFits w64 (to_z w64 held +ℤ y)
-    sum_fits = rw next (next_fits f count small n more)
-
-    pub sum_more : (r : ℤ) → r ≡ to_z w64 held +ℤ y → of_z w64 r ≡ of_z w64 (total_of f (n + 1))
-    sum_more r e = ap (of_z w64) (e ∙ next ∙ total_more f n)
+  -- the sum as the machine holds it
+  pub sum_more : (r : ℤ) → r ≡ sum +ℤ y → to_z w64 (of_z w64 r) ≡ total_of f (n + 1)
+  sum_more r e = rw e (to_z-of_z w64 (sum +ℤ y) sum_fits ∙ next ∙ total_more f n)

@@ -37,10 +37,6 @@ pub nought_fits : (count : ℕ) → 0 < 256 ^ count
 nought_fits zero = omega arith
 nought_fits (suc count) = omega (arith, nought_fits count, pow-suc 256 count)
 
-pub code_narrow : (reasons : Bool) → code_bytes reasons ≤ 8
-code_narrow false = omega arith
-code_narrow true = omega arith
-
 -- a code as read fits its field
 pub code_read : (reasons : Bool) (bytes : List ℕ) → Bytes bytes → (at : ℕ) → number_at bytes at (code_bytes reasons) < 65536
 code_read false bytes b at = omega (arith, number_below bytes b at 0)

@@ -1,7 +1,7 @@
 -- A coefficient's word holds it, and a word is that of the coefficient that it holds. Assumes nothing.
-use mathlib.Core.Path.{◌≡◌, refl, sym, ◌∙◌, ap}
-use mathlib.Core.Bool.{Bool, true, false}
-use Prim.Native.Nat.{ℕ, zero, suc, ◌+◌, ◌-◌, ◌≤◌, ◌<◌, ◌^◌}
+use mathlib.Core.Path.{◌≡◌, refl, ap}
+use mathlib.Core.Bool.{true, false}
+use Prim.Native.Nat.{ℕ, ◌+◌, ◌-◌, ◌≤◌, ◌<◌, ◌^◌}
 use native.Mathlib.Decide.{dec_lt}
 use native.Mathlib.Numerals.{add-one}
 use native.Mathlib.Omega.{arith}
@@ -23,9 +23,9 @@ unfolding word_of from_word
 from_word_of (pos n) h = rw (lt-ltb n (2 ^ 63) h)
 from_word_of (negsuc n) h = rw (le-ltb (2 ^ 64 - 1 - n) (2 ^ 63) (omega arith)) (ap negsuc (omega arith))
 
-pub word_from_lem : (w : ℕ) → w < 2 ^ 64 → word_of (from_word w) ≡ w
+pub word_from : (w : ℕ) → w < 2 ^ 64 → word_of (from_word w) ≡ w
 unfolding word_of from_word
-word_from_lem w h = go (dec_lt w (2 ^ 63))
+word_from w h = go (dec_lt w (2 ^ 63))
   where
     go : Dec (w < 2 ^ 63) → word_of (from_word w) ≡ w
     go (yes less) = rw (lt-ltb w (2 ^ 63) less)

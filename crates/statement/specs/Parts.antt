@@ -5,7 +5,6 @@ use Rattle.currency.specs.declared.Currency.{Currency}
 use Rattle.currency.specs.Table.{last_currency}
 use Rattle.amount.specs.Amounts.{largest}
 use Rattle.statement.specs.Files.{record_width, most_records, last_place, last_reason, trailer_width, file_size}
-use Rattle.statement.specs.Reading.{coefficients_in}
 
 -- coefficients that are within L, at most so many as a file has
 pub record Few (f : ℕ → ℤ) (count : ℕ) : Type 0 where

@@ -8,16 +8,17 @@ mod turns;
 use console::{Source, end_with, open_first};
 use turns::write_new;
 
-fn main() {
+fn main(rt: HostRuntime) {
     match open_first(
+        &rt,
         3,
         b"two arguments: the file to read, and a new file to write\n",
     ) {
         Source::Nowhere(status) => {
-            end_with(status);
+            end_with(&rt, status);
         },
-        Source::From(fd) => {
-            end_with(write_new(fd));
+        Source::From(stream) => {
+            end_with(&rt, write_new(&rt, stream));
         },
     }
 }

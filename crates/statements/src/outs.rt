@@ -2,16 +2,20 @@
 // stand are no statement, and no reader takes them for one.
 ghost use Rattle.std.specs.Prelude.{◌≤◌};
 
-use console::{FAILED, WELL};
+use crate::records::Records;
+use console::{FAILED, WELL, say_failed};
 use currency::Currency;
 use statement::{RECORD_WITH_REASON, RECORDS, TRAILER, write_reasons};
+use std::fs;
+use std::fs::OpenFile;
+use std::io::{Result, Write};
+use std::rt::Files;
 
 // A byte and the longest statement.
 const LONGEST: usize = 1 + RECORDS * RECORD_WITH_REASON + TRAILER;
 
 #[derive(Clone, Copy)]
 pub struct Out {
-    pub fd: i32,
     // a statement is written, but for its last byte
     pub begun: bool,
     // writing failed
@@ -20,7 +24,6 @@ pub struct Out {
 
 fn failed_out(out: Out) -> Out {
     Out {
-        fd: out.fd,
         begun: out.begun,
         failed: true,
     }
@@ -34,7 +37,7 @@ fn first_place(begun: bool) -> usize
 }
 
 // With the bytes of a statement behind those that are written: the last byte of the one before stands in front of them, and theirs is left out.
-fn put_out(out: Out, file: &[u8], end: usize) -> Out {
+fn put_out(rt: &impl Eprint, writer: &mut impl Write, out: Out, file: &[u8], end: usize) -> Out {
     if end < 2 {
         return failed_out(out);
     }
@@ -43,82 +46,84 @@ fn put_out(out: Out, file: &[u8], end: usize) -> Out {
     }
     let from = first_place(out.begun);
     let to = end - 1;
-    let is_written = io::write_all(out.fd, &file[from..to]);
-    if !is_written {
-        os::fail(b"write");
+    if let Err(error) = writer.write_all(&file[from..to]) {
+        say_failed(rt, "write", error);
         return failed_out(out);
     }
     Out {
-        fd: out.fd,
         begun: true,
         failed: out.failed,
     }
 }
 
-// With the statement of so many payouts, the first of the lists.
+// With the statement of so many records, the first of those that wait.
 pub(crate) fn put_statement(
+    rt: &impl Eprint,
+    writer: &mut impl Write,
     out: Out,
     currency: Currency,
-    places: &[u16],
-    reasons: &[u16],
-    coefficients: &[i64],
+    records: &Records,
     count: usize,
 ) -> Out {
     if out.failed {
         return out;
     }
-    if places.len() < count {
-        return failed_out(out);
-    }
-    if reasons.len() < count {
-        return failed_out(out);
-    }
-    if coefficients.len() < count {
+    if RECORDS < count {
         return failed_out(out);
     }
     let mut file = [0u8; LONGEST];
     let written = write_reasons(
         currency,
-        &places[0..count],
-        &reasons[0..count],
-        &coefficients[0..count],
+        &records.places[0..count],
+        &records.reasons[0..count],
+        &records.coefficients[0..count],
         &mut file,
         1,
     );
-    put_out(out, &file, written.end)
+    put_out(rt, writer, out, &file, written.end)
 }
 
-// Whether the last byte is written, behind all others on their device.
-fn finish(out: Out) -> bool {
+// Writes the last byte, behind all others on their device, and waits until it is there too.
+fn end_file(file: &mut (impl Write + OpenFile)) -> Result<()> {
+    file.sync_all()?;
+    file.write_all(b"\0")?;
+    file.sync_all()
+}
+
+// Whether the last byte is written, where there is one. The file is closed then.
+fn finish(rt: &impl Eprint, mut file: impl Write + OpenFile + Drop, out: Out) -> bool {
     if out.failed {
         return false;
     }
     if !out.begun {
         return true;
     }
-    if libc::fsync(out.fd) != 0 {
-        os::fail(b"write");
-        return false;
+    match end_file(&mut file) {
+        Ok(()) => true,
+        Err(error) => {
+            say_failed(rt, "write", error);
+            false
+        },
     }
-    let is_written = io::write_all(out.fd, b"\0");
-    if !is_written {
-        os::fail(b"write");
-    }
-    is_written
 }
 
 // The status: where reading or writing failed the file is removed. It is closed before the status is written, which may have its descriptor's number.
-pub(crate) fn close_out(out: Out, unread: bool, path: &[u8]) -> u8 {
-    let is_whole = if unread { false } else { finish(out) };
-    let is_closed = libc::close(out.fd) == 0;
-    if is_whole {
-        if is_closed {
-            return WELL;
-        }
-        os::fail(b"write");
+pub(crate) fn close_out<R: Files + Eprint>(
+    rt: &R,
+    file: R::File,
+    out: Out,
+    unread: bool,
+    path: &str,
+) -> u8 {
+    let read_out = Out {
+        begun: out.begun,
+        failed: if unread { true } else { out.failed },
+    };
+    if finish(rt, file, read_out) {
+        return WELL;
     }
-    if os::unlink(path) != 0 {
-        os::fail(path);
+    if let Err(error) = fs::remove_file(rt, path) {
+        say_failed(rt, path, error);
     }
     FAILED
 }

@@ -1,8 +1,25 @@
-// Records that wait for their statement's end, in three lists: places, codes of reasons and coefficients.
+// Records that wait for their statement's end.
 ghost use Rattle.std.specs.Prelude.{◌≤◌};
 
 use book::Book;
+use statement::RECORDS;
 use whole::signed;
+
+// In three lists: places, codes of reasons and coefficients.
+#[derive(Drop)]
+pub struct Records {
+    pub places: [u16; RECORDS],
+    pub reasons: [u16; RECORDS],
+    pub coefficients: [i64; RECORDS],
+}
+
+pub(crate) fn no_records() -> Records {
+    Records {
+        places: [0; RECORDS],
+        reasons: [0; RECORDS],
+        coefficients: [0; RECORDS],
+    }
+}
 
 // A payout to a place, or what a refund took back from it, with the code of a reason.
 #[derive(Clone, Copy)]
@@ -34,36 +51,22 @@ pub(crate) fn count_paid(payouts: [u64; Book::PARTNERS]) -> usize
 }
 
 // A record at a place of the lists, where they have it, and the place behind it; none for a payout of 0.
-fn put_one(
-    places: &mut [u16],
-    reasons: &mut [u16],
-    coefficients: &mut [i64],
-    at: usize,
-    record: Record,
-) -> usize {
+fn put_one(records: &mut Records, at: usize, record: Record) -> usize {
     if record.payout == 0 {
         return at;
     }
-    if places.len() <= at {
+    if RECORDS <= at {
         return at;
     }
-    if reasons.len() <= at {
-        return at;
-    }
-    if coefficients.len() <= at {
-        return at;
-    }
-    places[at] = record.place;
-    reasons[at] = record.reason;
-    coefficients[at] = signed(record.refund, record.payout);
+    records.places[at] = record.place;
+    records.reasons[at] = record.reason;
+    records.coefficients[at] = signed(record.refund, record.payout);
     at + 1
 }
 
 // A record for each payout above 0, with a negative coefficient where it was taken back, and the place behind them.
 pub(crate) fn put_paid(
-    places: &mut [u16],
-    reasons: &mut [u16],
-    coefficients: &mut [i64],
+    records: &mut Records,
     from: usize,
     payouts: [u64; Book::PARTNERS],
     refund: bool,
@@ -79,7 +82,7 @@ pub(crate) fn put_paid(
             refund,
             reason,
         };
-        at = put_one(places, reasons, coefficients, at, record);
+        at = put_one(records, at, record);
         place += 1;
     }
     at

@@ -2,13 +2,16 @@
 ghost use Rattle.std.specs.Prelude.{◌≤◌};
 
 use crate::outs::{Out, close_out, put_statement};
-use crate::records::{count_paid, put_paid};
+use crate::records::{Records, count_paid, no_records, put_paid};
 use amount::Amount;
 use book::{Book, Moved};
-use console::{FAILED, first_feed, refill};
+use console::{BUFFER, FAILED, PATH, first_feed, path_text, read_path, refill, say_failed};
 use intake::Lead;
 use quarter::{Asked, Next, Opening, Reading, begin, card_of, no_book, read_line};
 use statement::RECORDS;
+use std::fs::File;
+use std::io::{Read, Write};
+use std::rt::{Env, Files};
 
 #[derive(Clone, Copy)]
 pub struct Statements {
@@ -22,7 +25,7 @@ pub struct Statements {
     pub ended: bool,
 }
 
-fn first_turn(out: Out) -> Statements {
+fn first_turn() -> Statements {
     let reading = Reading {
         feed: first_feed(),
         lead: Lead::Spaces,
@@ -36,26 +39,39 @@ fn first_turn(out: Out) -> Statements {
         book: no_book(),
         opened: false,
         count: 0,
-        out,
+        out: Out {
+            begun: false,
+            failed: false,
+        },
         ended: false,
     }
 }
 
 // With a statement of the records that wait.
-fn close(mut at: Statements, places: &[u16], reasons: &[u16], coefficients: &[i64]) -> Statements {
+fn close(
+    rt: &impl Eprint,
+    writer: &mut impl Write,
+    mut at: Statements,
+    records: &Records,
+) -> Statements {
     let out = at.out;
     let currency = at.book.currency;
-    at.out = put_statement(out, currency, places, reasons, coefficients, at.count);
+    at.out = put_statement(rt, writer, out, currency, records, at.count);
     at.count = 0;
     at
 }
 
 // With the book ended: one without a payout has an empty statement.
-fn end_book(at: Statements, places: &[u16], reasons: &[u16], coefficients: &[i64]) -> Statements {
+fn end_book(
+    rt: &impl Eprint,
+    writer: &mut impl Write,
+    at: Statements,
+    records: &Records,
+) -> Statements {
     if !at.opened {
         return at;
     }
-    let mut ended = close(at, places, reasons, coefficients);
+    let mut ended = close(rt, writer, at, records);
     ended.book = no_book();
     ended.opened = false;
     ended
@@ -94,13 +110,13 @@ fn move_by(book: Book, refund: bool, amount: Amount) -> Moved {
 
 // With a posting or a refund. The statement is closed before its records would take it over the most.
 fn pay(
+    rt: &impl Eprint,
+    writer: &mut impl Write,
     at: Statements,
     refund: bool,
     amount: Amount,
     reason: u16,
-    places: &mut [u16],
-    reasons: &mut [u16],
-    coefficients: &mut [i64],
+    records: &mut Records,
 ) -> Statements {
     let book = at.book;
     let moved = move_by(book, refund, amount);
@@ -108,64 +124,55 @@ fn pay(
     let next = moved.book;
     let mut paid = at;
     if RECORDS - count_paid(payouts) < at.count {
-        paid = close(at, places, reasons, coefficients);
+        paid = close(rt, writer, at, records);
     }
     paid.book = next;
-    paid.count = put_paid(
-        places,
-        reasons,
-        coefficients,
-        paid.count,
-        payouts,
-        refund,
-        reason,
-    );
+    paid.count = put_paid(records, paid.count, payouts, refund, reason);
     paid
 }
 
 // With what a line asks for.
 fn take(
+    rt: &impl Eprint,
+    writer: &mut impl Write,
     at: Statements,
     asked: Asked,
     line: &[u8],
-    places: &mut [u16],
-    reasons: &mut [u16],
-    coefficients: &mut [i64],
+    records: &mut Records,
 ) -> Statements {
     match asked {
-        Asked::Call(refund, amount, reason) => pay(
-            at,
-            refund,
-            amount,
-            reason,
-            places,
-            reasons,
-            coefficients,
-        ),
-        Asked::Open => begin_book(end_book(at, places, reasons, coefficients), line),
-        Asked::Astray => end_book(at, places, reasons, coefficients),
+        Asked::Call(refund, amount, reason) => {
+            pay(rt, writer, at, refund, amount, reason, records)
+        },
+        Asked::Open => begin_book(end_book(rt, writer, at, records), line),
+        Asked::Astray => end_book(rt, writer, at, records),
         Asked::Card => go_on_card(at, line),
         _ => at,
     }
 }
 
 // With more bytes read.
-fn read_on(fd: i32, mut at: Statements, text: &mut [u8]) -> Statements {
+fn read_on(
+    rt: &impl Eprint,
+    reader: &mut impl Read,
+    mut at: Statements,
+    text: &mut [u8],
+) -> Statements {
     let mut reading = at.reading;
     let feed = reading.feed;
-    reading.feed = refill(fd, feed, text);
+    reading.feed = refill(rt, reader, feed, text);
     at.reading = reading;
     at
 }
 
 // With the next line taken, more bytes read, or the last book ended.
 fn turn(
-    fd: i32,
+    rt: &impl Eprint,
+    reader: &mut impl Read,
+    writer: &mut impl Write,
     mut at: Statements,
     text: &mut [u8],
-    places: &mut [u16],
-    reasons: &mut [u16],
-    coefficients: &mut [i64],
+    records: &mut Records,
 ) -> Statements {
     let before = at.reading;
     let feed = before.feed;
@@ -176,10 +183,10 @@ fn turn(
     let next = reading.next;
     at.reading = reading;
     match next {
-        Next::Line(asked) => take(at, asked, &text[start..end], places, reasons, coefficients),
-        Next::More => read_on(fd, at, text),
+        Next::Line(asked) => take(rt, writer, at, asked, &text[start..end], records),
+        Next::More => read_on(rt, reader, at, text),
         Next::End => {
-            let mut last = end_book(at, places, reasons, coefficients);
+            let mut last = end_book(rt, writer, at, records);
             last.ended = true;
             last
         },
@@ -194,49 +201,43 @@ fn goes_on(at: Statements) -> bool {
 }
 
 // Line by line. A proved loop has to end, and nothing says that a file does: the turns are counted down from a number that no run uses up.
-fn run_all(fd: i32, out: Out) -> Statements {
-    let mut text = io::large_buffer();
-    let mut places = [0u16; RECORDS];
-    let mut reasons = [0u16; RECORDS];
-    let mut coefficients = [0i64; RECORDS];
-    let mut at = first_turn(out);
+fn run_all(rt: &impl Eprint, reader: &mut impl Read, writer: &mut impl Write) -> Statements {
+    let mut text = [0u8; BUFFER];
+    let mut records = no_records();
+    let mut at = first_turn();
     let mut turns = u64::MAX;
     while goes_on(at) {
         if turns == 0 {
             return at;
         }
         turns -= 1;
-        at = turn(
-            fd,
-            at,
-            &mut text,
-            &mut places,
-            &mut reasons,
-            &mut coefficients,
-        );
+        at = turn(rt, reader, writer, at, &mut text, &mut records);
     }
     at
 }
 
-// Writes the statements of what the descriptor reads to the new file that the second argument names, and answers the status.
-pub(crate) fn write_new(fd: i32) -> u8 {
-    let mut path = io::buffer();
-    let length = os::arg(2, &mut path);
-    if os::errno() != 0 {
-        os::fail(b"path");
-        return FAILED;
+// Writes the statements of what the reader gives to the new file of a path, and answers the status.
+fn write_to<R: Files + Eprint>(rt: &R, reader: &mut impl Read, path: &str) -> u8 {
+    match File::options().write(true).create_new(true).open(rt, path) {
+        Ok(mut file) => {
+            let last = run_all(rt, reader, &mut file);
+            close_out(rt, file, last.out, last.reading.feed.failed, path)
+        },
+        Err(error) => {
+            say_failed(rt, path, error);
+            FAILED
+        },
     }
-    let file = os::create(&path[..length]);
-    if file < 0 {
-        os::fail(&path[..length]);
+}
+
+// Writes the statements of what the reader gives to the new file that the second argument names, and answers the status.
+pub(crate) fn write_new<R: Files + Env + Eprint>(rt: &R, mut reader: impl Read + Drop) -> u8 {
+    let mut path = [0u8; PATH];
+    let Some(length) = read_path(rt, 2, &mut path) else {
         return FAILED;
-    }
-    let out = Out {
-        fd: file,
-        begun: false,
-        failed: false,
     };
-    let last = run_all(fd, out);
-    let out = last.out;
-    close_out(out, last.reading.feed.failed, &path[..length])
+    let Some(text) = path_text(rt, &path[..length]) else {
+        return FAILED;
+    };
+    write_to(rt, &mut reader, text)
 }

@@ -86,11 +86,11 @@ module _ (p w : List ℕ) (b : ℕ) (bs : List ℕ) where
       ∙ drop-append-add p (w ++ 46 ∷ b ∷ bs) (length w + 1)
       ∙ drop-append-add w (46 ∷ b ∷ bs) 1
 
-fraction-good
+fraction_good
     : (p w f : List ℕ) → Digits f → length f ≤ 6 → bad_fraction (p ++ (w ++ pointed f)) (length p + length w) ≡ false
-fraction-good p w [] none h =
+fraction_good p w [] none h =
     first_fails _ _ (le-ltb (length p + length w) (length (p ++ (w ++ []))) (rw (length-append p (w ++ []), length-append w []) (omega arith)))
-fraction-good p w (b ∷ bs) (more l k ds) h =
+fraction_good p w (b ∷ bs) (more l k ds) h =
     last_fails (ltb (at_end p w b bs) (length (pointed_text p w b bs))) _
     (neither (not (eqb (get_or (pointed_text p w b bs) (at_end p w b bs) 0) 46)) _
     (ap not (eq-eqb (get_or (pointed_text p w b bs) (at_end p w b bs) 0) 46 (at_point p w b bs)))
@@ -243,7 +243,7 @@ not_malformed bytes n w f t =
     neither (ltb 20 (length (p ++ (w ++ pointed f)))) _ (le-ltb 20 (length (p ++ (w ++ pointed f))) (rw t.spelled at t.short))
     (neither (bad_whole (p ++ (w ++ pointed f)) (length p) (length p + length w)) _
     (whole_good p w f t.digits t.some t.plain)
-    (fraction-good p w f t.places t.few)) in
+    (fraction_good p w f t.places t.few)) in
     neither (bad_shape bytes (start_in bytes) (end_in bytes)) _
     (ap (λ (k : ℕ). bad_shape bytes k (end_in bytes)) s ∙ ap (λ (k : ℕ). bad_shape bytes (length p) k) e
     ∙ ap (λ (bs : List ℕ). bad_shape bs (length p) (length p + length w)) t.spelled ∙ shape)

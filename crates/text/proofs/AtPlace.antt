@@ -1,5 +1,5 @@
 -- The text of so many units at a place of a buffer: in front of what is lent from the place on. Assumes nothing.
-use mathlib.Core.Path.{◌≡◌, refl, sym, ◌∙◌, ap}
+use mathlib.Core.Path.{◌≡◌, sym, ◌∙◌, ap}
 use mathlib.Core.Bool.{Bool}
 use mathlib.Core.List.{List, [], ◌++◌, append-nil}
 use Prim.Native.Nat.{ℕ, ◌+◌, ◌-◌, ◌≤◌, ◌<◌}

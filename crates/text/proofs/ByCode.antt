@@ -69,12 +69,12 @@ pub code_back : (c : Currency) → c.0 ≤ last_currency → currency_of (line_o
 code_back c h = ap (λ (n : ℕ). record { 0 = n }) (in_table c h).1
 
 -- a number that is found below 255 is of a line that has the code
-found-has
+found_has
     : (a b c n : ℕ) (ls : List Line) → n + length ls ≤ no_currency → number_from a b c n ls < no_currency
     → (n ≤ number_from a b c n ls) × (number_from a b c n ls < n + length ls) × (has_code a b c (get_or ls (number_from a b c n ls - n) none) ≡ true)
 unfolding number_from
-found-has a b c n [] room h = absurd (omega arith)
-found-has a b c n (l ∷ ls) room h = by (has_code a b c l) refl h (found-has a b c (suc n) ls)
+found_has a b c n [] room h = absurd (omega arith)
+found_has a b c n (l ∷ ls) room h = by (has_code a b c l) refl h (found_has a b c (suc n) ls)
   where
     by
         : (t : Bool) → has_code a b c l ≡ t → cond t n (number_from a b c (suc n) ls) < no_currency
@@ -123,7 +123,7 @@ code_found code h = by (eqb (length code) 3) refl h
     by false e less = absurd (omega arith)
     by true e less =
         let n : ℕ = number_of (get_or code 0 0) (get_or code 1 0) (get_or code 2 0) in
-        let r = found-has (get_or code 0 0) (get_or code 1 0) (get_or code 2 0) 0 currencies (omega arith) less in
+        let r = found_has (get_or code 0 0) (get_or code 1 0) (get_or code 2 0) 0 currencies (omega arith) less in
         let has : has_code (get_or code 0 0) (get_or code 1 0) (get_or code 2 0) (get_or currencies n none) ≡ true = rw (sub-zero n) at r.2 in
         (omega (arith, r.1), same_letters code (get_or currencies n none).code (eqb-true (length code) 3 e) (three n (omega (arith, r.1))) has)
       where

@@ -97,10 +97,10 @@ leading (b ∷ bs) (more l k ds) plain h = by (b - 48) (omega arith) (first_digi
         let one : 1 ≤ d = omega (arith, some plain) in
         rw n (omega (arith, mul-le-mul_right (10 ^ length bs) one))
 
-not-shorter
+not_shorter
     : (bs cs : List ℕ) → Digits bs → Digits cs → 0 < length bs → (get_or cs 0 0 ≡ 48 → length cs ≡ 1) → worth 0 bs ≡ worth 0 cs
     → length bs < length cs → ⊥
-not-shorter bs cs ds es some plain same less =
+not_shorter bs cs ds es some plain same less =
     let least : 10 ^ (length cs - 1) ≤ worth 0 cs = leading cs es plain (omega arith) in
     let power : 10 ^ length bs ≤ 10 ^ (length cs - 1) = pow-le-pow_right (omega arith) (omega arith) in
     omega (arith, below bs ds, least, power, same)
@@ -112,8 +112,8 @@ pub same_plain
 same_plain bs cs ds es some any plain bare same = by (dec_lt (length bs) (length cs)) (dec_lt (length cs) (length bs))
   where
     by : Dec (length bs < length cs) → Dec (length cs < length bs) → bs ≡ cs
-    by (yes l) g = absurd (not-shorter bs cs ds es some bare same l)
-    by (no l) (yes g) = absurd (not-shorter cs bs es ds any plain (sym same) g)
+    by (yes l) g = absurd (not_shorter bs cs ds es some bare same l)
+    by (no l) (yes g) = absurd (not_shorter cs bs es ds any plain (sym same) g)
     by (no l) (no g) = same_digits bs cs ds es (omega arith) same
 
 -- digits as the scan sees them

@@ -2,12 +2,12 @@
 -- every place that the pass came to; and what it answers behind the digits before the point is the call's answer. Assumes nothing.
 use mathlib.Core.Path.{◌≡◌, refl, sym, ◌∙◌, ap}
 use mathlib.Core.Bool.{Bool, true, false, not, ◌||◌}
-use mathlib.Core.List.{List, [], ◌∷◌, ◌++◌}
-use Prim.Native.Nat.{ℕ, suc, ◌+◌, ◌-◌, ◌*◌, ◌^◌, ◌≤◌, ◌<◌}
+use mathlib.Core.List.{List}
+use Prim.Native.Nat.{ℕ, ◌+◌, ◌-◌, ◌*◌, ◌^◌, ◌≤◌, ◌<◌}
 use native.Mathlib.Nat.{pow-suc}
 use native.Mathlib.Numerals.{add-one}
 use native.Mathlib.Omega.{arith}
-use borrow.Author.Tests.{lt-ltb, le-ltb, ltb-false}
+use borrow.Author.Tests.{lt-ltb, le-ltb}
 use lib.Dec.{ltb, eqb}
 use lib.ListN.{length, get_or, take, drop, length-drop, drop_of_length-le}
 use lib.Seq.{slice, drop-cons, take-length}
@@ -16,19 +16,19 @@ use Rattle.lines.specs.Lines.{span, is_digit, worth}
 use Rattle.lines.proofs.Spans.{span_le}
 use Rattle.currency.specs.declared.Currency.{Currency}
 use Rattle.currency.specs.Table.{unknown}
-use Rattle.text.specs.Read.{start_in, digits_end, fraction_from, number_at, scale_at, bad_whole, bad_fraction, bad_shape, read_said, made_said, Shaped}
-use Rattle.text.specs.Scan.{digits_from, bad_point, rest_said, Scanned}
+use Rattle.text.specs.Read.{start_in, digits_end, fraction_from, number_at, scale_at, bad_whole, bad_fraction, bad_shape, read_said, made_said}
+use Rattle.text.specs.Scan.{digits_from, bad_point, rest_said}
 use Rattle.text.proofs.Digits.{worth_join}
-use Rattle.text.proofs.Accepted.{both_fail, first_fails, cut}
+use Rattle.text.proofs.Accepted.{first_fails, cut}
 use Rattle.text.proofs.Numbers.{malformed_said, shaped_said}
 
 module _ (passes : ℕ → Bool) (bytes : List ℕ) (i m : ℕ) where
   abbrev from : ℕ → List ℕ
   from k = take (span passes (drop k bytes)) (drop k bytes)
 
-  pub goes_on_lem : i < length bytes → passes (get_or bytes i 0) ≡ true → worth m (from i) ≡ worth (m * 10 + (get_or bytes i 0 - 48)) (from (i + 1))
+  pub goes_on : i < length bytes → passes (get_or bytes i 0) ≡ true → worth m (from i) ≡ worth (m * 10 + (get_or bytes i 0 - 48)) (from (i + 1))
   unfolding span worth
-  goes_on_lem h e = rw (drop-cons bytes i 0 h, e, add-one)
+  goes_on h e = rw (drop-cons bytes i 0 h, e, add-one)
 
   pub stops : i < length bytes → passes (get_or bytes i 0) ≡ false → worth m (from i) ≡ m
   unfolding span worth
@@ -53,11 +53,6 @@ module _ (bytes : List ℕ) (end : ℕ) where
   fraction_tests h =
       rw (lt-ltb end (length bytes) h)
       (regroup (not (eqb (get_or bytes end 0) 46)) (eqb (length bytes - (end + 1)) 0) (ltb 6 (length bytes - (end + 1))) (ltb (digits_end bytes (end + 1)) (length bytes)))
-
-  pub point_few : bad_point bytes end ≡ false → scale_at (length bytes) end ≤ 6
-  point_few good =
-      ltb-false 6 (length bytes - (end + 1))
-      (both_fail (eqb (length bytes - (end + 1)) 0) _ (both_fail (not (eqb (get_or bytes end 0) 46)) _ good).1).1
 
   -- digits up to the end are all that is left
   pub all_left : end < length bytes → length bytes ≤ digits_end bytes (end + 1) → digits_from bytes (end + 1) ≡ fraction_from bytes end
@@ -99,11 +94,11 @@ module _ (currency : Currency) (bytes : List ℕ) (start end : ℕ) (known : unk
       (malformed_said currency bytes start end known starts ends
       (bad_part (ltb 20 (length bytes)) (bad_whole bytes start end) (bad_fraction bytes end) (ap (λ (y : Bool). y || bad_fraction bytes end) e)))
 
-  pub rest_is_lem
+  pub rest_is
       : (number : ℕ) → number ≡ worth 0 (digits_from bytes start) → length bytes ≤ 20 → bad_whole bytes start end ≡ false
       → rest_said currency (ltb 0 start) bytes end number ≡ read_said currency bytes
   unfolding bad_shape
-  rest_is_lem number makes short good = by (bad_fraction bytes end) refl
+  rest_is number makes short good = by (bad_fraction bytes end) refl
     where
       number_is : worth number (fraction_from bytes end) ≡ number_at bytes start end
       number_is =

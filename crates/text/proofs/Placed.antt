@@ -3,10 +3,10 @@
 use mathlib.Core.Path.{◌≡◌, refl, sym, ◌∙◌, ap, ap₂}
 use mathlib.Core.Bool.{Bool, false}
 use mathlib.Core.List.{List, [], ◌∷◌, ◌++◌, append_assoc}
-use Prim.Native.Nat.{ℕ, zero, suc, ◌+◌, ◌-◌, ◌*◌, ◌/◌, ◌%◌, ◌^◌, ◌≤◌, ◌<◌}
+use Prim.Native.Nat.{ℕ, zero, suc, ◌+◌, ◌*◌, ◌/◌, ◌%◌, ◌^◌, ◌≤◌, ◌<◌}
 use native.Mathlib.Nat.{pow-suc, one-le-pow, mod-one, mod-lt, mod-eq_of_lt, div-add-mod', mul-add-mod_self_right}
 use native.Mathlib.Omega.{arith}
-use borrow.Author.Tests.{le-ltb, lt-ltb, ltb-false}
+use borrow.Author.Tests.{le-ltb, lt-ltb}
 use lib.ListN.{length, take, drop, set, length-append, take-append-drop}
 use lib.Seq.{length-take-le, take_at, drop-append-add, drop-drop, set_at}
 use Rattle.refusal.specs.declared.Checked.TheVariants.{Passed, Refused}
@@ -14,7 +14,7 @@ use Rattle.refusal.specs.declared.Refusal.TheVariants.{Room}
 use Rattle.refusal.specs.declared.Refusal.{Refusal}
 use Rattle.refusal.specs.Number.{number_of, blamed_of}
 use Rattle.refusal.specs.Rows.{gives, refuses, Row, check_of}
-use Rattle.refusal.proofs.Check.{passed, refused, behind as rows_behind, clear}
+use Rattle.refusal.proofs.Check.{passed, refused, behind as rows_behind}
 use Rattle.whole.specs.Whole.{magnitude_of}
 use Rattle.lines.specs.Texts.{decimal, text_of, put_at, place_behind}
 use Rattle.lines.proofs.Fills.{one_digit, more_digits, put, behind}
@@ -22,8 +22,8 @@ use Rattle.lines.proofs.Puts.{put_length}
 use Rattle.text.specs.declared.Written.{Written}
 use Rattle.text.specs.Grammar.{minus, pointed}
 use Rattle.amount.specs.declared.Amount.{Amount}
-use Rattle.amount.specs.Amounts.{last_scale, amount_rows}
-use Rattle.text.specs.Written.{last_digits, spelled, text_of as textOfAmount, write_said, room_rows, room_said, buffer_after, Writes}
+use Rattle.amount.specs.Amounts.{amount_rows}
+use Rattle.text.specs.Written.{last_digits, spelled, text_of as amount_text, write_said, room_rows, room_said, buffer_after, Writes}
 use Rattle.text.proofs.Spelled.{last_length}
 
 -- a piece behind a piece
@@ -201,17 +201,14 @@ module _ (a : Amount) (out : List ℕ) where
   abbrev front : List Row
   front = amount_rows a.scale (magnitude_of a.coefficient) a.currency
 
-  pub passed_said : check_of front ≡ Passed → write_said a (length out) ≡ room_said (textOfAmount a) (length out)
+  pub passed_said : check_of front ≡ Passed → write_said a (length out) ≡ room_said (amount_text a) (length out)
   unfolding write_said
   passed_said e =
-      rows_behind (gives (length (textOfAmount a))) front (room_rows (textOfAmount a) (length out)) ∙ passed (room_said (textOfAmount a) (length out)) front e
+      rows_behind (gives (length (amount_text a))) front (room_rows (amount_text a) (length out)) ∙ passed (room_said (amount_text a) (length out)) front e
 
-  pub passed_scale : check_of front ≡ Passed → a.scale ≤ last_scale
-  passed_scale e = ltb-false last_scale a.scale (clear front e).0
-
-  pub refused_writes : (r : Refusal) → check_of front ≡ Refused r → Writes (textOfAmount a) (write_said a (length out)) out (record { outcome = Refused r; length = 0 }) out
+  pub refused_writes : (r : Refusal) → check_of front ≡ Refused r → Writes (amount_text a) (write_said a (length out)) out (record { outcome = Refused r; length = 0 }) out
   unfolding write_said buffer_after
   refused_writes r e =
       let said : write_said a (length out) ≡ refuses (number_of r) (blamed_of r) =
-      rows_behind (gives (length (textOfAmount a))) front (room_rows (textOfAmount a) (length out)) ∙ refused (room_said (textOfAmount a) (length out)) front r e in
+      rows_behind (gives (length (amount_text a))) front (room_rows (amount_text a) (length out)) ∙ refused (room_said (amount_text a) (length out)) front r e in
       rw said (record { answer = refl; reported = refl; left = refl })

@@ -3,7 +3,7 @@
 use mathlib.Core.Path.{◌≡◌, sym, ◌∙◌, ap}
 use mathlib.Core.Bool.{true}
 use mathlib.Core.List.{List, ◌++◌}
-use Prim.Native.Nat.{ℕ, ◌+◌, ◌/◌, ◌^◌, ◌≤◌, ◌<◌}
+use Prim.Native.Nat.{ℕ, ◌/◌, ◌^◌, ◌≤◌, ◌<◌}
 use native.Mathlib.Omega.{arith}
 use borrow.Author.Tests.{le-ltb, ltb-false}
 use lib.IntN.{ℤ, pos, negsuc}
@@ -131,11 +131,11 @@ module _ (c : Currency) (bytes : List ℕ) (a : Amount) (e : read_said c bytes �
       (ap (signed_of (negative a.coefficient)) (number_is_magnitude a read_good) ∙ sign_and_magnitude a.coefficient
       ∙ ap (λ (x : Amount). x.coefficient) stands.is)
 
-  pub Written-Read
+  pub written_read
       : (out : List ℕ) → length bytes ≤ length out
       → (write_said a (length out) ≡ gives (length bytes)) × (buffer_after (text_of a) (write_said a (length out)) out ≡ bytes ++ drop (length bytes) out)
   unfolding write_said buffer_after
-  Written-Read out room =
+  written_read out room =
       let written : write_said a (length out) ≡ gives (length bytes) = rw
       (le-ltb last_scale a.scale read_good.scale, le-ltb largest (magnitude_of a.coefficient) read_good.within, le-ltb last_currency a.currency.0 read_good.known, text_read, le-ltb (length out) (length bytes) room) in (
         written,

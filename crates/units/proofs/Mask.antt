@@ -1,6 +1,6 @@
 -- A table of one cycle gives every total: place i's total at n is its share rounded down and bit i of row n mod W. The bit is 0 or 1
 -- because no total is more than one above its share rounded down, and the rows are made by one walk over the units. Assumes nothing.
-use mathlib.Core.Path.{◌≡◌, refl, sym, ap, ◌∙◌}
+use mathlib.Core.Path.{◌≡◌, refl, sym, ap}
 use mathlib.Core.List.{List}
 use Prim.Native.Nat.{ℕ, zero, suc, ◌+◌, ◌-◌, ◌*◌, ◌/◌, ◌%◌, ◌^◌, ◌≤◌, ◌<◌}
 use native.Mathlib.Nat.{le_refl, add-zero, pow-suc, pow-succ', div-eq_of_lt, add-mul-div_left, mul-le-mul_left, mod-add-div', add-mul-div_right}

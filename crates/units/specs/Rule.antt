@@ -1,7 +1,7 @@
 -- Document 01, "The share book", the paragraph "Who gets unit number t": the taker of a unit, and the running totals.
 -- Partners are places of a list of weights; `W` is the sum of the weights, `held` the units that each place has so far.
 -- Cited by the book's promises. Assumes nothing.
-use Rattle.std.specs.Prelude.{Bool, true, false, cond, List, ℕ, zero, suc, ◌+◌, ◌-◌, ◌*◌, ◌/◌, ltb, length, get_or, set, replicate}
+use Rattle.std.specs.Prelude.{Bool, cond, List, ℕ, zero, suc, ◌+◌, ◌-◌, ◌*◌, ◌/◌, ltb, length, get_or, set, replicate}
 unfoldable pub use Rattle.whole.specs.Sums.{sum_of}
 
 -- "let a partner with weight w have a units so far. It may take the unit if a x W < t x w."

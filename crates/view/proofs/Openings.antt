@@ -1,10 +1,10 @@
 -- From what a reader says of some bytes to where a view of them begins. Assumes nothing.
-use mathlib.Core.Path.{◌≡◌, refl, sym, ◌∙◌, ap}
+use mathlib.Core.Path.{◌≡◌, sym, ◌∙◌, ap}
 use mathlib.Core.List.{List}
 use Prim.Native.Nat.{ℕ}
 use Rattle.refusal.specs.declared.Refusal.{Refusal}
 use Rattle.refusal.specs.Number.{number_of, blamed_of}
-use Rattle.refusal.specs.Rows.{Said, gives, refuses, first_row}
+use Rattle.refusal.specs.Rows.{Said, gives, refuses}
 use Rattle.refusal.proofs.Check.{passed}
 use Rattle.refusal.proofs.Joined.{same_value, let_pass, same_refused}
 use Rattle.statement.specs.declared.Summary.{Summary}

@@ -1,7 +1,7 @@
 -- "It opens on exactly the files of Ask 3": a view of some bytes begins at a place exactly where the bytes end in a file of the definition whose first
 -- record starts there. Two answers that the promise of `open_at` allows are equal, and number n is given exactly when its row says.
 -- Assumes nothing.
-use mathlib.Core.Path.{◌≡◌, refl, sym, ◌∙◌, ap, ap₂, subst}
+use mathlib.Core.Path.{◌≡◌, sym, ◌∙◌, ap, ap₂, subst}
 use mathlib.Core.Bool.{Bool, false}
 use mathlib.Core.Logic.{◌↔◌}
 use mathlib.Core.List.{List}

@@ -1,5 +1,5 @@
 -- Document 02, Ask 11, "It opens on exactly the files of Ask 3": where a view of some bytes begins. Cited by `open_at` and `open_any_at`. Assumes nothing.
-use Rattle.std.specs.Prelude.{List, [], ℕ}
+use Rattle.std.specs.Prelude.{List, ℕ}
 use Rattle.refusal.specs.Number.{number_of, blamed_of}
 use Rattle.refusal.specs.Rows.{Said, gives, refuses, first_row}
 use Rattle.statement.specs.Reading.{read_rows, summary_of, reasons_in, any_rows, summary_in}

@@ -1,6 +1,6 @@
 -- From a check to the answer of a call with a lent output: a refused check leaves the output as it stood, what passed puts the values in
 -- front; and two answers that such a promise allows are equal, with the two outputs. Assumes nothing.
-use mathlib.Core.Path.{◌≡◌, refl, sym, ◌∙◌}
+use mathlib.Core.Path.{◌≡◌, sym, ◌∙◌}
 use mathlib.Core.List.{List, ◌++◌}
 use lib.ListN.{length, drop}
 use Rattle.refusal.specs.declared.Refusal.{Refusal}

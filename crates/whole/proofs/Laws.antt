@@ -1,13 +1,13 @@
 -- A whole number is its sign and its magnitude, and an i64 holds every magnitude below 2^63 with either sign. Assumes nothing.
-use mathlib.Core.Path.{◌≡◌, refl, sym, ◌∙◌, ap, ap₂}
+use mathlib.Core.Path.{◌≡◌, refl}
 use mathlib.Core.Bool.{Bool, true, false, not}
-use Prim.Native.Nat.{ℕ, zero, suc, ◌<◌, ◌≤◌, ◌^◌}
+use Prim.Native.Nat.{ℕ, zero, suc, ◌<◌, ◌^◌}
 use native.Mathlib.Omega.{arith}
 use borrow.Author.Tests.{le-ltb}
 use lib.IntN.{ℤ, pos, negsuc, neg_ℤ}
 use lib.Signed.{mag}
 use mir.Syntax.{w64}
-use mir.Val.{SFits, to_z, of_z}
+use mir.Val.{to_z, of_z}
 use mir.ValLaws.{to_z-of_z}
 use Rattle.whole.specs.Whole.{negative, magnitude_of, signed_of, held_signed, reach}
 

@@ -1,8 +1,5 @@
 -- What `check_any` says, with the version and the first record's start. Assumes nothing.
-use mathlib.Core.Path.{◌≡◌, refl, sym, ◌∙◌, ap, ap₂}
-use native.Mathlib.Omega.{arith}
 use Rattle.view.proofs.Openings.{open_any_found, open_any_refused}
-use borrow.Author.Rules.{rules}
 use Rattle.view.proofs.open_any_at.Goals as goal
 
 pub returns-in-Value : goal.returns-in-Value

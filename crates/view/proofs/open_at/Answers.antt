@@ -1,13 +1,5 @@
 -- What `check` says, with the first record's start alone. Assumes nothing.
-use mathlib.Core.Path.{◌≡◌, refl, sym, ◌∙◌, ap, ap₂}
-use native.Mathlib.Omega.{arith}
-use mathlib.Core.Path.{subst}
-use Prim.Native.Nat.{ℕ}
-use Rattle.refusal.specs.Rows.{gives, refuses}
-use Rattle.statement.specs.Reading.{read_rows, summary_of, read_said}
-use Rattle.view.specs.Opening.{open_said}
 use Rattle.view.proofs.Openings.{open_found, open_refused}
-use borrow.Author.Rules.{rules}
 use Rattle.view.proofs.open_at.Goals as goal
 
 pub returns-in-Value : goal.returns-in-Value

@@ -1,6 +1,5 @@
 -- Of at most 64 weights the sum so far is the sum over the places passed, and below 2^32 for each of them. Assumes nothing.
-use mathlib.Core.Path.{◌≡◌, refl, sym, ◌∙◌, ap}
-use Prim.Native.Nat.{◌*◌, ◌-◌, ◌≤◌}
+use mathlib.Core.Path.{refl, sym, ◌∙◌, ap}
 use native.Mathlib.Numerals.{add-one}
 use native.Mathlib.Omega.{arith}
 use borrow.Author.Rules.{rules}
@@ -11,12 +10,6 @@ use Rattle.weights.proofs.weigh.Goals as goal
 
 pub returns-then-weights-gt-MOST_WEIGHTS : goal.returns-then-weights-gt-MOST_WEIGHTS
 returns-then-weights-gt-MOST_WEIGHTS c = sym (weighed_none c.args.weights.now c.if-weights-gt-MOST_WEIGHTS.true)
-
-pub overflow_cast-sum : goal.overflow_cast-sum
-overflow_cast-sum c = omega (arith, c.shared_slice_known-1.given c.loop-i.i)
-
-pub overflow_add-sum : goal.overflow_add-sum
-overflow_add-sum c = omega (arith, c.shared_slice_known-1.given c.loop-i.i)
 
 pub loop-i-preserved : goal.loop-i-preserved
 unfolding sum_to

@@ -1,12 +1,8 @@
 -- Of at most 64 weights the sum so far is the sum over the places passed, and below 2^32 for each of them. Assumes nothing.
-use mathlib.Core.Path.{◌≡◌, refl, sym, ◌∙◌, ap}
+use mathlib.Core.Path.{◌≡◌}
 use Prim.Native.Nat.{◌*◌, ◌-◌, ◌≤◌}
-use native.Mathlib.Numerals.{add-one}
-use native.Mathlib.Omega.{arith}
-use borrow.Author.Rules.{rules}
 use lib.ListN.{length, get_or}
-use Rattle.whole.proofs.Sums.{sum_to, sum_list}
-use Rattle.weights.proofs.Weighed.{weighed_sum, weighed_none}
+use Rattle.whole.proofs.Sums.{sum_to}
 use Rattle.weights.proofs.weigh.Given as goal
 
 abbrev pub invariant-loop-i : goal.invariant-loop-i

@@ -25,21 +25,6 @@ rows_of_one a = amount_rows a.scale (magnitude_of a.coefficient) a.currency
 abbrev made : Amount → ℤ → Amount
 made a z = record { currency = a.currency; scale = a.scale; coefficient = z }
 
-pub opposite-requires : goal.opposite-requires
-opposite-requires c =
-    let own : SFits w64 c.args.self.coefficient = search rules in
-    let told : c.check_one.result ≡ check_of (rows_of_one c.args.self) =
-    let s = c in
-    let a = s.args.self in
-    c.check_one.ensures
-    ∙ ap (λ (m : ℕ). check_of (amount_rows a.scale m a.currency))
-    (read_magnitude a.coefficient c.magnitude.result own c.magnitude.ensures) in
-    let k = c in
-    let s = k in
-    let a = s.args.self in
-    rw (to_z-of_z w64 a.coefficient own)
-    (sound a.scale (magnitude_of a.coefficient) a.currency (sym told ∙ c.in-Passed.is)).within
-
 pub returns-in-Refused : goal.returns-in-Refused
 unfolding negate_said
 returns-in-Refused c =

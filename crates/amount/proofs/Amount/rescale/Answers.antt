@@ -1,7 +1,6 @@
 -- A refused choice of the rule is row 1; behind it stand the other rows and the rescaled amount. Assumes nothing.
 use mathlib.Core.Path.{sym, ◌∙◌, ap}
 use mathlib.Core.List.{[]}
-use borrow.Author.Rules.{rules}
 use Rattle.rounding.specs.declared.Rule.{Rule}
 use Rattle.rounding.specs.Modes.{rule_of}
 use Rattle.rounding.proofs.Chosen.{mode_refused, mode_chosen, rule_chosen}

@@ -9,7 +9,6 @@ use Rattle.refusal.specs.Rows.{check_of}
 use Rattle.refusal.proofs.Check.{passed, refused}
 use Rattle.whole.specs.Whole.{magnitude_of}
 use Rattle.whole.proofs.Laws.{read_back}
-use Rattle.amount.specs.declared.Amount.{Amount}
 use Rattle.amount.specs.Amounts.{limited, raised_to}
 use Rattle.amount.specs.Raising.{nearer}
 use Rattle.amount.specs.Sum.{rows_of_two, greater_scale, total, sum_said}

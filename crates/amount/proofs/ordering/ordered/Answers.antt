@@ -1,7 +1,6 @@
 -- Both coefficients are raised to the greater scale and compared there; one of them was at it before. Assumes nothing.
 use mathlib.Core.Path.{◌∙◌, ap₂}
 use Prim.Native.Nat.{◌-◌, ◌^◌, max}
-use borrow.Author.Rules.{rules}
 use lib.IntN.{pos, ◌*ℤ◌}
 use Rattle.amount.proofs.Raised.{one_near, same_order, read_raised}
 use Rattle.amount.specs.Sum.{compared}

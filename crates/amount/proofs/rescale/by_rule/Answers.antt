@@ -33,37 +33,6 @@ made a t z = record { currency = a.currency; scale = t; coefficient = z }
 abbrev asked : Amount → ℕ → ℤ → Said Amount
 asked a t z = limited z (made a t z)
 
-pub moved-requires : goal.moved-requires
-moved-requires c =
-    let own : SFits w64 c.args.amount.coefficient = search rules in
-    let told : let a = c.args in c.check.result ≡ check_of (rows_at a.amount a.scale) =
-    let s = c in
-    let a = s.args.amount in
-    c.check.ensures
-    ∙ ap (λ (m : ℕ). check_of (rescale_rows a.scale s.args.scale m a.currency))
-    (read_magnitude a.coefficient c.magnitude-m.result own c.magnitude-m.ensures) in
-    let k = c in
-    let s = k in
-    let a = s.args.amount in
-    let limits = rescalable a.scale s.args.scale (magnitude_of a.coefficient) a.currency (sym told ∙ c.in-Passed.is) in
-    rw (to_z-of_z w64 a.coefficient own) (limits.0.within, limits.0.scaled, limits.1)
-
-pub returns-in-Refused : goal.returns-in-Refused
-returns-in-Refused c =
-    let own : SFits w64 c.args.amount.coefficient = search rules in
-    let told : let a = c.args in c.check.result ≡ check_of (rows_at a.amount a.scale) =
-    let s = c in
-    let a = s.args.amount in
-    c.check.ensures
-    ∙ ap (λ (m : ℕ). check_of (rescale_rows a.scale s.args.scale m a.currency))
-    (read_magnitude a.coefficient c.magnitude-m.result own c.magnitude-m.ensures) in
-    let k = c in
-    let s = k in
-    let a = s.args.amount in
-    let t = s.args.scale in
-    sym
-    (refused (asked a t (rescaled s.args.rule t a)) (rows_at a t) c.in-Refused.refusal (sym told ∙ c.in-Refused.is))
-
 pub returns-in-Passed : goal.returns-in-Passed
 unfolding rescaled
 returns-in-Passed c =

@@ -1,8 +1,6 @@
 -- The magnitude is raised and takes the sign back, which is the signed product, at most so far from 0. Assumes nothing.
-use mathlib.Core.Path.{◌≡◌, ◌∙◌, ap}
-use Prim.Native.Nat.{ℕ, ◌-◌, ◌*◌, ◌≤◌, ◌^◌}
-use native.Mathlib.Omega.{arith}
-use borrow.Author.Rules.{rules}
+use mathlib.Core.Path.{◌∙◌, ap}
+use Prim.Native.Nat.{ℕ, ◌-◌, ◌*◌, ◌^◌}
 use mir.ValLaws.{to_z-of_z}
 use mir.Syntax.{w64}
 use Rattle.whole.specs.Whole.{negative, magnitude_of}

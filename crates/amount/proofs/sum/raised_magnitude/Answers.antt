@@ -3,7 +3,6 @@ use mathlib.Core.Path.{◌≡◌, sym, ◌∙◌, ap}
 use Prim.Native.Nat.{ℕ, ◌*◌, ◌/◌, ◌<◌, ◌≤◌, ◌^◌}
 use native.Mathlib.Nat.{div-lt_iff_lt-mul, le-div_iff_mul-le, one-le-pow}
 use native.Mathlib.Omega.{arith}
-use borrow.Author.Rules.{rules}
 use borrow.Author.Tests.{lt-ltb, le-ltb}
 use Rattle.currency.proofs.Tables.{power_of_ten_lem}
 use Rattle.amount.specs.Raising.{far, nearest}
@@ -19,15 +18,6 @@ nonzero_div-tens c =
     let is = c.power_of_ten-tens.ensures ∙ power_of_ten_lem k (omega arith) in
     (is, omega (arith, is, one-le-pow k 10 (omega arith))) in
     tens_are.1
-
-pub overflow_mul-result : goal.overflow_mul-result
-overflow_mul-result c =
-    let tens_are : (c.power_of_ten-tens.result ≡ 10 ^ c.args.places) × (0 < c.power_of_ten-tens.result) =
-    let k = c.args.places in
-    let is = c.power_of_ten-tens.ensures ∙ power_of_ten_lem k (omega arith) in
-    (is, omega (arith, is, one-le-pow k 10 (omega arith))) in
-    let within : c.args.m * c.power_of_ten-tens.result ≤ far = far_within c.args.m c.power_of_ten-tens.result tens_are.1 c.if-tens-m.false in
-    record { fits = omega (arith, within) }
 
 pub returns-then-tens-m : goal.returns-then-tens-m
 returns-then-tens-m c =

@@ -3,7 +3,6 @@ use mathlib.Core.Path.{◌≡◌, sym, ap, ◌∙◌}
 use mathlib.Core.Bool.{Bool}
 use mathlib.Core.List.{List, [], ◌∷◌, ◌++◌}
 use Prim.Native.Nat.{ℕ}
-use borrow.Author.Rules.{rules}
 use Rattle.refusal.specs.declared.Refusal.TheVariants.{Magnitude, Unknown}
 use Rattle.refusal.specs.Rows.{Row, row, check_of}
 use Rattle.refusal.proofs.Joined.{front_refused, front_passed}
@@ -25,10 +24,10 @@ abbrev rest : Book → Past → (broken short : Bool) → List Row
 rest b past broken short = contract_rows b.count b.weights b.card past.behind ++ last_rows broken (negative b.net) past.negative short
 
 -- they are the call's
-told-rows : (b : Book) (past : Past) (broken short : Bool) → Tells b.settled b.count b.net past
+told_rows : (b : Book) (past : Past) (broken short : Bool) → Tells b.settled b.count b.net past
     → check_of (front b past ++ rest b past broken short) ≡ check_of (listed_rows b broken short)
 unfolding listed_rows with_book weight_rows
-told-rows b past broken short tells =
+told_rows b past broken short tells =
     told b.settled b.count b.net past tells
     (λ full behind below. row Magnitude full ∷ row Unknown (unknown b.currency)
     ∷ contract_rows b.count b.weights b.card behind ++ last_rows broken (negative b.net) below short)
@@ -40,11 +39,9 @@ returns-in-Refused c =
     let b = c.args.self in
     let past = c.past_in-past.result in
     c.check_front.ensures ∙ ap (λ (n : ℕ). check_of (front_rows n past.over past.full b.currency)) c.net_of.ensures in
-    let s = c in
-    let p = s in
-    let a = p.args in
-    sym (front_refused (front a.self p.past_in-past.result) (rest a.self p.past_in-past.result a.broken a.short) c.in-Refused.refusal (sym first ∙ c.in-Refused.is))
-    ∙ told-rows a.self p.past_in-past.result a.broken a.short p.past_in-past.ensures
+    let a = c.args in
+    sym (front_refused (front a.self c.past_in-past.result) (rest a.self c.past_in-past.result a.broken a.short) c.in-Refused.refusal (sym first ∙ c.in-Refused.is))
+    ∙ told_rows a.self c.past_in-past.result a.broken a.short c.past_in-past.ensures
 
 pub returns-in-Passed : goal.returns-in-Passed
 returns-in-Passed c =
@@ -52,9 +49,7 @@ returns-in-Passed c =
     let b = c.args.self in
     let past = c.past_in-past.result in
     c.check_front.ensures ∙ ap (λ (n : ℕ). check_of (front_rows n past.over past.full b.currency)) c.net_of.ensures in
-    let s = c in
-    let p = s in
-    let a = p.args in
+    let a = c.args in
     c.check_rest.ensures
-    ∙ sym (front_passed (front a.self p.past_in-past.result) (rest a.self p.past_in-past.result a.broken a.short) (sym first ∙ c.in-Passed.is))
-    ∙ told-rows a.self p.past_in-past.result a.broken a.short p.past_in-past.ensures
+    ∙ sym (front_passed (front a.self c.past_in-past.result) (rest a.self c.past_in-past.result a.broken a.short) (sym first ∙ c.in-Passed.is))
+    ∙ told_rows a.self c.past_in-past.result a.broken a.short c.past_in-past.ensures

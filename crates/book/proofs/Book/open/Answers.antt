@@ -3,7 +3,6 @@ use mathlib.Core.Path.{◌≡◌, sym, ap, ◌∙◌}
 use mathlib.Core.List.{List}
 use Prim.Native.Nat.{ℕ, ◌≤◌}
 use native.Mathlib.Omega.{arith}
-use borrow.Author.Rules.{rules}
 use lib.IntN.{pos}
 use lib.ListN.{length}
 use Rattle.refusal.specs.declared.Checked.TheVariants.{Passed}
@@ -26,10 +25,10 @@ placed-requires c =
     fit
 
 pub returns-in-Refused : goal.returns-in-Refused
-returns-in-Refused c = let s = c in
-    let a = s.args in
+returns-in-Refused c =
+    let a = c.args in
     open_refused a.currency a.weights.now c.in-Refused.refusal c.zero_book.result
-    (sym s.check_open.ensures ∙ c.in-Refused.is) c.zero_book.ensures
+    (sym c.check_open.ensures ∙ c.in-Refused.is) c.zero_book.ensures
 
 pub returns-in-Passed : goal.returns-in-Passed
 unfolding open_book

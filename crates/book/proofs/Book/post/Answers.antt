@@ -2,7 +2,6 @@
 use mathlib.Core.Path.{◌≡◌, sym, ◌∙◌}
 use Prim.Native.Nat.{◌+◌, ◌≤◌}
 use native.Mathlib.Omega.{arith}
-use borrow.Author.Rules.{rules}
 use Rattle.refusal.specs.declared.Checked.TheVariants.{Passed}
 use Rattle.refusal.specs.Rows.{check_of}
 use Rattle.amount.specs.Amounts.{largest}
@@ -25,15 +24,14 @@ moved-requires c =
     (f.some, f.most, omega (arith, fit.1, c.net_of-net.ensures, c.units_of.ensures))
 
 pub returns-in-Refused : goal.returns-in-Refused
-returns-in-Refused c = let s = c in
-    let a = s.args in
+returns-in-Refused c =
+    let a = c.args in
     post_refused a.self a.amount c.refused.result c.in-Refused.refusal
-    (sym s.check_post.ensures ∙ c.in-Refused.is) c.refused.ensures
+    (sym c.check_post.ensures ∙ c.in-Refused.is) c.refused.ensures
 
 pub returns-in-Passed : goal.returns-in-Passed
 returns-in-Passed c =
     let passed : check_of (post_rows c.args.self c.args.amount) ≡ Passed = sym c.check_post.ensures ∙ c.in-Passed.is in
-    let n = c in
-    let a = n.args in
-    post_passed a.self a.amount c.moved.result n.net_of-net.result c.units_of.result n.net_of-net.ensures c.units_of.ensures
+    let a = c.args in
+    post_passed a.self a.amount c.moved.result c.net_of-net.result c.units_of.result c.net_of-net.ensures c.units_of.ensures
     passed c.moved.ensures

@@ -1,11 +1,9 @@
 -- Each test is one of the rows of the new weights. Assumes nothing.
-use mathlib.Core.Path.{◌≡◌, sym, ap, ◌∙◌}
+use mathlib.Core.Path.{sym, ap, ◌∙◌}
 use mathlib.Core.Bool.{not}
-use Prim.Native.Nat.{ℕ, ◌+◌, ◌≤◌, ◌<◌}
+use Prim.Native.Nat.{◌+◌}
 use native.Mathlib.Omega.{arith}
-use borrow.Author.Rules.{rules}
 use borrow.Author.Tests.{lt-ltb, le-ltb, eq-eqb, ne_eqb}
-use lib.ListN.{length}
 use Rattle.book.specs.Books.{cards}
 use Rattle.book.specs.Checks.{refused_in, breaks_by}
 use Rattle.book.proofs.cards.breaks.Goals as goal
@@ -21,14 +19,14 @@ returns-then-card-ge-CARDS c = let card = c.args.card in
 
 pub returns-in-Refused : goal.returns-in-Refused
 unfolding breaks_by
-returns-in-Refused c = let s = c in
-    let card = s.args.card in
-    rw (ap not (eq-eqb _ _ s.if-weights-count.false), le-ltb cards (card + 1) (omega (arith, s.if-card-ge-CARDS.false)))
-    (sym (ap refused_in (sym s.check_list.ensures ∙ c.in-Refused.is)))
+returns-in-Refused c =
+    let card = c.args.card in
+    rw (ap not (eq-eqb _ _ c.if-weights-count.false), le-ltb cards (card + 1) (omega (arith, c.if-card-ge-CARDS.false)))
+    (sym (ap refused_in (sym c.check_list.ensures ∙ c.in-Refused.is)))
 
 pub returns-in-Passed : goal.returns-in-Passed
 unfolding breaks_by
-returns-in-Passed c = let s = c in
-    let card = s.args.card in
-    rw (ap not (eq-eqb _ _ s.if-weights-count.false), le-ltb cards (card + 1) (omega (arith, s.if-card-ge-CARDS.false)))
-    (sym (ap refused_in (sym s.check_list.ensures ∙ c.in-Passed.is)))
+returns-in-Passed c =
+    let card = c.args.card in
+    rw (ap not (eq-eqb _ _ c.if-weights-count.false), le-ltb cards (card + 1) (omega (arith, c.if-card-ge-CARDS.false)))
+    (sym (ap refused_in (sym c.check_list.ensures ∙ c.in-Passed.is)))

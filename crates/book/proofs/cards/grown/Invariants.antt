@@ -1,19 +1,11 @@
 -- At each place the sum takes the settled total's place, and an i64 holds it. Assumes nothing.
-use mathlib.Core.Path.{◌≡◌, refl, sym, ap, ◌∙◌}
-use mathlib.Core.Bool.{false}
+use mathlib.Core.Path.{◌≡◌}
 use mathlib.Core.List.{List}
-use Prim.Native.Nat.{ℕ, ◌+◌, ◌-◌, ◌^◌, ◌≤◌, ◌<◌}
-use native.Mathlib.Omega.{arith}
-use borrow.Author.Rules.{rules}
+use Prim.Native.Nat.{ℕ, ◌+◌, ◌-◌, ◌≤◌}
 use lib.IntN.{ℤ, pos}
-use lib.ListN.{length, get_or}
-use mir.Syntax.{w64}
-use mir.Val.{to_z, of_z}
+use lib.ListN.{get_or}
 use Rattle.whole.specs.Whole.{magnitude_of}
 use Rattle.whole.specs.Lists.{filled}
-use Rattle.whole.proofs.Laws.{held_within, read_back}
-use Rattle.whole.proofs.Lists.{fill_none, fill_more}
-use Rattle.book.specs.Checks.{added_by}
 use Rattle.book.proofs.cards.grown.Given as goal
 
 -- what the loop stores at a place

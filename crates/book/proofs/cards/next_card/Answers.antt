@@ -16,10 +16,9 @@ use Rattle.book.proofs.cards.next_card.Goals as goal
 pub grown-settled-requires : goal.grown-settled-requires
 grown-settled-requires c =
     let made : c.totals_at-totals.result ≡ totals c.args.book.weights (net_of c.args.book) =
-    let t = c in
-    let b = t.args.book in
-    c.totals_at-totals.ensures ∙ totals_are b.weights t.requires.some t.requires.most _ ∙ ap (totals b.weights) c.net_of.ensures in
-    let t = c in rw made (sums_fit t.args.book t.requires)
+    let b = c.args.book in
+    c.totals_at-totals.ensures ∙ totals_are b.weights c.requires.some c.requires.most _ ∙ ap (totals b.weights) c.net_of.ensures in
+    rw made (sums_fit c.args.book c.requires)
 
 pub overflow_add-card : goal.overflow_add-card
 overflow_add-card c =
@@ -29,14 +28,10 @@ overflow_add-card c =
 pub returns : goal.returns
 returns c =
     let made : c.totals_at-totals.result ≡ totals c.args.book.weights (net_of c.args.book) =
-    let t = c in
-    let b = t.args.book in
-    c.totals_at-totals.ensures ∙ totals_are b.weights t.requires.some t.requires.most _ ∙ ap (totals b.weights) c.net_of.ensures in
-    let weights-long : length c.args.book.weights ≡ partners = search rules in
-    let settled-long : length c.args.book.settled ≡ partners = search rules in
-    let g = c in
-    let s = g in
-    let t = s in
-    let b = t.args.book in
-    ap (λ (zs : List ℤ). record { currency = b.currency; count = b.count; weights = t.args.weights; net = pos 0; card = b.card + 1; settled = zs })
-    (g.grown-settled.ensures ∙ ap (added_by b.settled) made ∙ added_are b t.requires settled-long weights-long)
+    let b = c.args.book in
+    c.totals_at-totals.ensures ∙ totals_are b.weights c.requires.some c.requires.most _ ∙ ap (totals b.weights) c.net_of.ensures in
+    let weights_long : length c.args.book.weights ≡ partners = search rules in
+    let settled_long : length c.args.book.settled ≡ partners = search rules in
+    let b = c.args.book in
+    ap (λ (zs : List ℤ). record { currency = b.currency; count = b.count; weights = c.args.weights; net = pos 0; card = b.card + 1; settled = zs })
+    (c.grown-settled.ensures ∙ ap (added_by b.settled) made ∙ added_are b c.requires settled_long weights_long)

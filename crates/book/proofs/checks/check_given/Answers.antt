@@ -1,7 +1,6 @@
 -- Each test of the check is its row's. Assumes nothing.
 use mathlib.Core.Path.{sym, ap, ◌∙◌}
 use mathlib.Core.Bool.{not}
-use borrow.Author.Rules.{rules}
 use borrow.Author.Tests.{lt-ltb, le-ltb, eq-eqb, ne_eqb}
 use Rattle.book.specs.Checks.{given_rows}
 use Rattle.book.proofs.checks.check_given.Goals as goal

@@ -32,10 +32,10 @@ standing b past a =
     contract_rows b.count b.weights b.card past.behind ++ sign_rows (negative a.coefficient) (negative b.net) past.negative
 
 -- they are the call's
-told-rows : (b : Book) (past : Past) (a : Amount) → Tells b.settled b.count b.net past
+told_rows : (b : Book) (past : Past) (a : Amount) → Tells b.settled b.count b.net past
     → check_of (given b past a ++ standing b past a) ≡ check_of (move_rows b a)
 unfolding move_rows with_book weight_rows given_rows
-told-rows b past a tells =
+told_rows b past a tells =
     told b.settled b.count b.net past tells
     (λ full behind below. row Magnitude full ∷ row Unknown (unknown a.currency) ∷ row Unknown (unknown b.currency) ∷ row Differ (differ a.currency b.currency)
     ∷ contract_rows b.count b.weights b.card behind ++ sign_rows (negative a.coefficient) (negative b.net) below)
@@ -48,28 +48,23 @@ returns-in-Refused c =
     c.check_given.ensures
     ∙ ap₂ (λ (m n : ℕ). check_of (given_rows a.amount.scale m a.amount.currency n a.past.over a.past.full a.book.currency))
     c.units_of-units.ensures c.net_of-net.ensures in
-    let s = c in
-    let t = s in
-    let a = t.args in
+    let a = c.args in
     sym (front_refused (given a.book a.past a.amount) (standing a.book a.past a.amount) c.in-Refused.refusal (sym front ∙ c.in-Refused.is))
-    ∙ told-rows a.book a.past a.amount t.requires
+    ∙ told_rows a.book a.past a.amount c.requires
 
 pub returns-in-Passed : goal.returns-in-Passed
 returns-in-Passed c =
-    let amount-fits : SFits w64 c.args.amount.coefficient = search rules in
-    let net-fits : SFits w64 c.args.book.net = search rules in
+    let amount_fits : SFits w64 c.args.amount.coefficient = search rules in
+    let net_fits : SFits w64 c.args.book.net = search rules in
     let front : c.check_given.result ≡ check_of (given c.args.book c.args.past c.args.amount) =
     let a = c.args in
     c.check_given.ensures
     ∙ ap₂ (λ (m n : ℕ). check_of (given_rows a.amount.scale m a.amount.currency n a.past.over a.past.full a.book.currency))
     c.units_of-units.ensures c.net_of-net.ensures in
-    let told = c in
-    let s = told in
-    let t = s in
-    let a = t.args in
+    let a = c.args in
     c.check_standing.ensures
     ∙ ap₂ (λ (x y : Bool). check_of (contract_rows a.book.count a.book.weights a.book.card a.past.behind ++ sign_rows x y a.past.negative))
-    (c.is_negative.ensures ∙ ap negative (to_z-of_z w64 a.amount.coefficient amount-fits))
-    (c.is_negative-in-Passed.ensures ∙ ap negative (to_z-of_z w64 a.book.net net-fits))
-    ∙ sym (front_passed (given a.book a.past a.amount) (standing a.book a.past a.amount) (sym front ∙ told.in-Passed.is))
-    ∙ told-rows a.book a.past a.amount t.requires
+    (c.is_negative.ensures ∙ ap negative (to_z-of_z w64 a.amount.coefficient amount_fits))
+    (c.is_negative-in-Passed.ensures ∙ ap negative (to_z-of_z w64 a.book.net net_fits))
+    ∙ sym (front_passed (given a.book a.past a.amount) (standing a.book a.past a.amount) (sym front ∙ c.in-Passed.is))
+    ∙ told_rows a.book a.past a.amount c.requires

@@ -4,7 +4,6 @@ use mathlib.Core.Bool.{Bool}
 use mathlib.Core.List.{List, [], ◌∷◌}
 use Prim.Native.Nat.{◌≤◌, ◌<◌}
 use native.Mathlib.Omega.{arith}
-use borrow.Author.Rules.{rules}
 use borrow.Author.Tests.{lt-ltb, le-ltb}
 use Rattle.refusal.specs.declared.Checked.TheVariants.{Passed}
 use Rattle.refusal.specs.declared.Refusal.TheVariants.{Refund}
@@ -20,13 +19,10 @@ use Rattle.book.proofs.checks.check_refund.Goals as goal
 abbrev last : Book → Amount → List Row
 last b a = row Refund (ltb (net_of b) (units_of a)) ∷ []
 
-pub check_move-requires : goal.check_move-requires
-check_move-requires c = c.past_in.ensures
-
 pub returns-in-Refused : goal.returns-in-Refused
-returns-in-Refused c = let s = c in
-    let a = s.args in
-    sym (front_refused (move_rows a.book a.amount) (last a.book a.amount) c.in-Refused.refusal (sym s.check_move.ensures ∙ c.in-Refused.is))
+returns-in-Refused c =
+    let a = c.args in
+    sym (front_refused (move_rows a.book a.amount) (last a.book a.amount) c.in-Refused.refusal (sym c.check_move.ensures ∙ c.in-Refused.is))
 
 pub returns-then-net_of-units_of : goal.returns-then-net_of-units_of
 returns-then-net_of-units_of c =

@@ -10,7 +10,6 @@ use Rattle.book.proofs.checks.past_in.Goals as goal
 
 pub returns : goal.returns
 returns c =
-    let net-fits : SFits w64 c.args.book.net = search rules in
-    let s = c in
-    let b = s.args.book in
-    subst (λ (z : ℤ). Tells b.settled b.count z c.past_of.result) (to_z-of_z w64 b.net net-fits) c.past_of.ensures
+    let net_fits : SFits w64 c.args.book.net = search rules in
+    let b = c.args.book in
+    subst (λ (z : ℤ). Tells b.settled b.count z c.past_of.result) (to_z-of_z w64 b.net net_fits) c.past_of.ensures

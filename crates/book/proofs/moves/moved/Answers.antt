@@ -2,7 +2,6 @@
 use mathlib.Core.Path.{◌≡◌, ap, ◌∙◌}
 use mathlib.Core.Bool.{false}
 use native.Mathlib.Omega.{arith}
-use borrow.Author.Rules.{rules}
 use lib.IntN.{pos}
 use mir.Syntax.{w64}
 use mir.Val.{to_z, of_z}
@@ -17,13 +16,13 @@ use Rattle.book.proofs.moves.moved.Goals as goal
 
 pub returns : goal.returns
 unfolding next_book
-returns c = let s = c in
-    let b = s.args.book in
-    let net : to_z w64 (of_z w64 c.signed.result) ≡ pos s.args.net =
-    read_back c.signed.result c.signed.type_inv ∙ c.signed.ensures ∙ held_within false s.args.net (omega (arith, s.requires.2)) in
+returns c =
+    let b = c.args.book in
+    let net : to_z w64 (of_z w64 c.signed.result) ≡ pos c.args.net =
+    read_back c.signed.result c.signed.type_inv ∙ c.signed.ensures ∙ held_within false c.args.net (omega (arith, c.requires.2)) in
     let next = c.at_net-next.ensures ∙ ap (book_at b) net in
     record {
       outcome = ap (λ (x : Book). gives (magnitude_of x.net)) next;
       book = next;
-      paid = c.units_between-payouts.ensures ∙ between_are b.weights s.requires.0 s.requires.1 s.args.low s.args.high;
+      paid = c.units_between-payouts.ensures ∙ between_are b.weights c.requires.0 c.requires.1 c.args.low c.args.high;
     }

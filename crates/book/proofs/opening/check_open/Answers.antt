@@ -1,5 +1,4 @@
 -- The currency number decides first, and behind it the weights. Assumes nothing.
-use borrow.Author.Rules.{rules}
 use borrow.Author.Tests.{lt-ltb, le-ltb}
 use Rattle.book.proofs.opening.check_open.Goals as goal
 

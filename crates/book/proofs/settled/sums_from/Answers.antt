@@ -1,16 +1,13 @@
 -- From the last place down, the sums are those of the places passed, each within L. Assumes nothing.
 use mathlib.Core.Path.{◌≡◌, refl, sym, ap, ◌∙◌}
-use mathlib.Core.Bool.{false}
 use mathlib.Core.List.{List}
-use Prim.Native.Nat.{ℕ, suc, ◌+◌, ◌-◌, ◌*◌, ◌≤◌, ◌<◌}
-use native.Mathlib.Decide.{dec_lt}
+use Prim.Native.Nat.{ℕ, suc, ◌+◌, ◌-◌, ◌≤◌}
 use native.Mathlib.Omega.{arith}
 use borrow.Author.Rules.{rules}
 use lib.IntN.{ℤ, pos}
 use lib.ListN.{length, get_or, drop}
 use Rattle.whole.proofs.Laws.{read_back}
-use Rattle.amount.specs.Amounts.{largest}
-use Rattle.book.specs.Settled.{up_of, down_of, above, below, any_over}
+use Rattle.book.specs.Settled.{up_of, down_of, above, below}
 use Rattle.book.proofs.SettledTotals.{above_earlier, below_earlier, none_behind_end, within}
 use Rattle.book.proofs.settled.sums_from.Goals as goal
 
@@ -28,76 +25,35 @@ loop-i-init c =
     let h = long in
     let none = none_behind_end c.args.settled 16 (omega arith) in (omega arith, sym none.0, sym none.1, λ b. refl)
 
-pub overflow_sub-i : goal.overflow_sub-i
-overflow_sub-i c = omega arith
-
-pub offset_bounds-settled-i : goal.offset_bounds-settled-i
-offset_bounds-settled-i c = omega arith
-
-pub bounds-settled-i : goal.bounds-settled-i
-bounds-settled-i c = omega arith
-
 pub overflow_add-above : goal.overflow_add-above
 overflow_add-above c =
     let long : length c.args.settled ≡ 16 = search rules in
     let upper : c.up-above.result ≡ up_of (get_or c.args.settled (c.loop-i.i - 1) (pos 0)) =
     let z = get_or c.args.settled (c.loop-i.i - 1) (pos 0) in
-    c.up-above.ensures ∙ ap up_of (read_back z c.up-arg-1.given) in
-    let l = c in
-    let zs = l.args.settled in
+    c.up-above.ensures ∙ ap up_of (read_back z (search rules)) in
+    let zs = c.args.settled in
     let h = long in
-    omega (arith, (grows zs l.loop-i.i h (omega arith) l.loop-i.invariant.0).0, (within zs (l.loop-i.i - 1) h l.requires).0, upper, l.loop-i.invariant.1)
-
-pub offset_bounds-settled-i-in-loop-i : goal.offset_bounds-settled-i-in-loop-i
-offset_bounds-settled-i-in-loop-i c = omega arith
-
-pub bounds-settled-i-in-loop-i : goal.bounds-settled-i-in-loop-i
-bounds-settled-i-in-loop-i c = omega arith
+    omega (arith, (grows zs c.loop-i.i h (omega arith) c.loop-i.invariant.0).0, (within zs (c.loop-i.i - 1) h c.requires).0, upper, c.loop-i.invariant.1)
 
 pub overflow_add-below : goal.overflow_add-below
 overflow_add-below c =
     let long : length c.args.settled ≡ 16 = search rules in
     let lower : c.down-below.result ≡ down_of (get_or c.args.settled (c.loop-i.i - 1) (pos 0)) =
     let z = get_or c.args.settled (c.loop-i.i - 1) (pos 0) in
-    c.down-below.ensures ∙ ap down_of (read_back z c.down-arg-1.given) in
-    let l = c in
-    let zs = l.args.settled in
+    c.down-below.ensures ∙ ap down_of (read_back z (search rules)) in
+    let zs = c.args.settled in
     let h = long in
-    omega (arith, (grows zs l.loop-i.i h (omega arith) l.loop-i.invariant.0).1, (within zs (l.loop-i.i - 1) h l.requires).1, lower, l.loop-i.invariant.2)
-
-pub loop-i-smaller : goal.loop-i-smaller
-loop-i-smaller c = omega arith
+    omega (arith, (grows zs c.loop-i.i h (omega arith) c.loop-i.invariant.0).1, (within zs (c.loop-i.i - 1) h c.requires).1, lower, c.loop-i.invariant.2)
 
 pub loop-i-preserved : goal.loop-i-preserved
 loop-i-preserved c =
     let long : length c.args.settled ≡ 16 = search rules in
     let upper : c.up-above.result ≡ up_of (get_or c.args.settled (c.loop-i.i - 1) (pos 0)) =
     let z = get_or c.args.settled (c.loop-i.i - 1) (pos 0) in
-    c.up-above.ensures ∙ ap up_of (read_back z c.up-arg-1.given) in
+    c.up-above.ensures ∙ ap up_of (read_back z (search rules)) in
     let lower : c.down-below.result ≡ down_of (get_or c.args.settled (c.loop-i.i - 1) (pos 0)) =
     let z = get_or c.args.settled (c.loop-i.i - 1) (pos 0) in
-    c.down-below.ensures ∙ ap down_of (read_back z c.down-arg-1.given) in
-    let l = c in
-    let zs = l.args.settled in
-    let g = grows zs l.loop-i.i long (omega arith) l.loop-i.invariant.0 in
-    (omega arith, omega (arith, g.0, upper, l.loop-i.invariant.1), omega (arith, g.1, lower, l.loop-i.invariant.2), λ b. omega arith)
-
-pub returns : goal.returns
-returns c =
-    let long : length c.args.settled ≡ 16 = search rules in
-    go (dec_lt c.loop-i.i c.args.from)
-  where
-    go : Dec (c.loop-i.i < c.args.from)
-        → (c.loop-i.above ≡ above (drop c.args.from c.args.settled))
-        × (c.loop-i.below ≡ below (drop c.args.from c.args.settled))
-    go (yes b) =
-        let h = long in
-        let e = c.loop-i.invariant.3 b in
-        let here = none_behind_end c.args.settled c.loop-i.i (omega arith) in
-        let there = none_behind_end c.args.settled c.args.from (omega arith) in
-        (omega (arith, here.0, there.0, c.loop-i.invariant.1), omega (arith, here.1, there.1, c.loop-i.invariant.2))
-    go (no b) =
-        let e : c.loop-i.i ≡ c.args.from = omega arith in (
-          c.loop-i.invariant.1 ∙ ap (λ (k : ℕ). above (drop k c.args.settled)) e,
-          c.loop-i.invariant.2 ∙ ap (λ (k : ℕ). below (drop k c.args.settled)) e,
-        )
+    c.down-below.ensures ∙ ap down_of (read_back z (search rules)) in
+    let zs = c.args.settled in
+    let g = grows zs c.loop-i.i long (omega arith) c.loop-i.invariant.0 in
+    (omega arith, omega (arith, g.0, upper, c.loop-i.invariant.1), omega (arith, g.1, lower, c.loop-i.invariant.2), λ b. omega arith)

@@ -1,7 +1,6 @@
 -- Each test of the check is its row's, at the sums that `sum_from` gives. Assumes nothing.
 use mathlib.Core.Path.{sym, ap, ◌∙◌}
 use Prim.Native.Nat.{ℕ}
-use borrow.Author.Rules.{rules}
 use borrow.Author.Tests.{lt-ltb, le-ltb}
 use lib.Dec.{ltb}
 use Rattle.book.specs.Books.{weight_sum, weight_rows}

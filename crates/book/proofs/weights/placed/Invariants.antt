@@ -1,14 +1,9 @@
 -- The list fills the first places of sixteen noughts. Assumes nothing.
-use mathlib.Core.Path.{◌≡◌, refl, ap, ◌∙◌}
-use Prim.Native.Nat.{ℕ, ◌-◌, ◌≤◌}
-use native.Mathlib.Omega.{arith}
-use borrow.Author.Rules.{rules}
+use mathlib.Core.Path.{◌≡◌}
+use Prim.Native.Nat.{◌-◌, ◌≤◌}
 use lib.ListN.{length, get_or}
 use Rattle.book.specs.Books.{zeros}
 use Rattle.whole.specs.Lists.{filled}
-use Rattle.whole.proofs.Lists.{fill_none}
-use Rattle.running.proofs.Places.{fill_next}
-use Rattle.book.proofs.Lists.{padded}
 use Rattle.book.proofs.weights.placed.Given as goal
 
 abbrev pub invariant-loop-i : goal.invariant-loop-i

@@ -1,104 +1,63 @@
 -- Each turn reads one place's total off the row. Assumes nothing.
-use mathlib.Core.Path.{◌≡◌}
-use Prim.Native.Nat.{◌+◌, ◌-◌, ◌*◌, ◌/◌, ◌%◌, ◌≤◌}
 use native.Mathlib.Nat.{div-le_self}
 use native.Mathlib.Omega.{arith}
 use borrow.Author.Rules.{rules}
-use lib.ListN.{length, get_or}
-use Rattle.amount.specs.Amounts.{largest}
-use Rattle.cycle.proofs.Bounds.{total_within}
-use Rattle.bulk.proofs.RowTotals.{scale, Read, read_start, left_within, row_within, share_within, product_within, total_is, read_more, read_end}
+use Rattle.bulk.proofs.RowTotals.{scale, read_start, left_within, row_within, share_within, product_within, total_small, read_more, read_end}
 use Rattle.bulk.proofs.reading.totals_by.Goals as goal
-
-pub nonzero_div-cycles : goal.nonzero_div-cycles
-nonzero_div-cycles c = c.requires.weighed.some
-
-pub nonzero_rem-left : goal.nonzero_rem-left
-nonzero_rem-left c = c.requires.weighed.some
-
-pub nonzero_div-share : goal.nonzero_div-share
-nonzero_div-share c = c.requires.weighed.some
 
 pub overflow_add-share : goal.overflow_add-share
 overflow_add-share c = omega (arith, div-le_self scale c.args.sum)
 
 pub overflow_mul-share : goal.overflow_mul-share
 overflow_mul-share c =
-    let long : length c.args.weights ≡ 16 = search rules in
     let a = c.args in
-    let s = c in
-    omega (arith, share_within a.weights a.sum a.table.now a.n s.requires.weighed long s.requires.cycled)
+    omega (arith, share_within a.weights a.sum a.table.now a.n c.requires.weighed (search rules) c.requires.cycled)
 
 pub offset_bounds-table-left : goal.offset_bounds-table-left
 offset_bounds-table-left c =
-    let long : length c.args.weights ≡ 16 = search rules in
     let a = c.args in
-    let s = c in
-    omega (arith, left_within a.weights a.sum a.table.now a.n s.requires.weighed long s.requires.cycled, c.requires.weighed.most)
+    omega (arith, left_within a.weights a.sum a.table.now a.n c.requires.weighed (search rules) c.requires.cycled, c.requires.weighed.most)
 
 pub bounds-table-left : goal.bounds-table-left
 bounds-table-left c =
-    let long : length c.args.weights ≡ 16 = search rules in
-    let s = c in
-    let a = s.args in
-    row_within a.weights a.sum a.table.now a.n s.requires.weighed long s.requires.cycled
-
-pub overflow_cast-bits : goal.overflow_cast-bits
-overflow_cast-bits c = omega (arith, c.shared_slice_known-1.given (c.args.n % c.args.sum))
+    let a = c.args in
+    row_within a.weights a.sum a.table.now a.n c.requires.weighed (search rules) c.requires.cycled
 
 pub loop-i-init : goal.loop-i-init
 loop-i-init c = let a = c.args in read_start a.weights a.sum a.table.now a.n
 
 pub overflow_mul-held : goal.overflow_mul-held
 overflow_mul-held c =
-    let long : length c.args.weights ≡ 16 = search rules in
-    let within : c.args.n / c.args.sum * get_or c.args.weights c.loop-i.i 0 + c.args.n % c.args.sum * (scale / c.args.sum + 1) * get_or c.args.weights c.loop-i.i 0 / scale + c.loop-i.bits % 2 ≤ largest =
-    let s = c in
-    let a = s.args in
+    let a = c.args in
     let l = c.loop-i in
-    omega (arith, total_is a.weights a.sum a.table.now a.n s.requires.weighed long s.requires.cycled l.bits l.held l.i l.invariant c.loop-i-test.true, total_within a.weights a.sum s.requires.weighed long a.n l.i c.loop-i-test.true, s.requires.n_le_largest) in
-    omega (arith, within)
+    omega (arith, total_small a.weights a.sum a.table.now a.n c.requires.weighed (search rules) c.requires.cycled l.bits l.held l.i l.invariant c.loop-i-test.true c.requires.n_le_largest)
 
 pub overflow_mul-held-in-loop-i : goal.overflow_mul-held-in-loop-i
 overflow_mul-held-in-loop-i c =
-    let long : length c.args.weights ≡ 16 = search rules in
-    let s = c in
-    let a = s.args in
+    let a = c.args in
     let l = c.loop-i in
-    omega (arith, product_within a.weights a.sum a.table.now a.n s.requires.weighed long s.requires.cycled l.bits l.held l.i l.invariant c.loop-i-test.true)
+    omega (arith, product_within a.weights a.sum a.table.now a.n c.requires.weighed (search rules) c.requires.cycled l.bits l.held l.i l.invariant c.loop-i-test.true)
 
 pub overflow_add-held : goal.overflow_add-held
 overflow_add-held c =
-    let long : length c.args.weights ≡ 16 = search rules in
-    let within : c.args.n / c.args.sum * get_or c.args.weights c.loop-i.i 0 + c.args.n % c.args.sum * (scale / c.args.sum + 1) * get_or c.args.weights c.loop-i.i 0 / scale + c.loop-i.bits % 2 ≤ largest =
-    let s = c in
-    let a = s.args in
+    let a = c.args in
     let l = c.loop-i in
-    omega (arith, total_is a.weights a.sum a.table.now a.n s.requires.weighed long s.requires.cycled l.bits l.held l.i l.invariant c.loop-i-test.true, total_within a.weights a.sum s.requires.weighed long a.n l.i c.loop-i-test.true, s.requires.n_le_largest) in
-    omega (arith, within)
+    omega (arith, total_small a.weights a.sum a.table.now a.n c.requires.weighed (search rules) c.requires.cycled l.bits l.held l.i l.invariant c.loop-i-test.true c.requires.n_le_largest)
 
 pub overflow_add-held-in-loop-i : goal.overflow_add-held-in-loop-i
 overflow_add-held-in-loop-i c =
-    let long : length c.args.weights ≡ 16 = search rules in
-    let within : c.args.n / c.args.sum * get_or c.args.weights c.loop-i.i 0 + c.args.n % c.args.sum * (scale / c.args.sum + 1) * get_or c.args.weights c.loop-i.i 0 / scale + c.loop-i.bits % 2 ≤ largest =
-    let s = c in
-    let a = s.args in
+    let a = c.args in
     let l = c.loop-i in
-    omega (arith, total_is a.weights a.sum a.table.now a.n s.requires.weighed long s.requires.cycled l.bits l.held l.i l.invariant c.loop-i-test.true, total_within a.weights a.sum s.requires.weighed long a.n l.i c.loop-i-test.true, s.requires.n_le_largest) in
-    omega (arith, within)
+    omega (arith, total_small a.weights a.sum a.table.now a.n c.requires.weighed (search rules) c.requires.cycled l.bits l.held l.i l.invariant c.loop-i-test.true c.requires.n_le_largest)
 
 pub loop-i-preserved : goal.loop-i-preserved
 loop-i-preserved c =
-    let long : length c.args.weights ≡ 16 = search rules in
-    let s = c in
-    let a = s.args in
+    let a = c.args in
     let l = c.loop-i in
-    read_more a.weights a.sum a.table.now a.n s.requires.weighed long s.requires.cycled l.bits l.held l.i l.invariant c.loop-i-test.true
+    read_more a.weights a.sum a.table.now a.n c.requires.weighed (search rules) c.requires.cycled l.bits l.held l.i l.invariant c.loop-i-test.true
 
 pub returns : goal.returns
 returns c =
-    let long : length c.args.weights ≡ 16 = search rules in
-    let s = c in
-    let a = s.args in
+    let a = c.args in
     let l = c.loop-i in
-    read_end a.weights a.sum a.table.now a.n s.requires.weighed long s.requires.cycled l.bits l.held l.i l.invariant c.loop-i-test.false
+    read_end a.weights a.sum a.table.now a.n c.requires.weighed (search rules) c.requires.cycled l.bits l.held l.i l.invariant c.loop-i-test.false

@@ -1,7 +1,6 @@
 -- A refused check is the answer; what passed has a sound book and room for every call, and all are served. Assumes nothing.
 use mathlib.Core.Path.{◌≡◌, sym, ap₂, ◌∙◌}
 use mathlib.Core.Bool.{Bool}
-use borrow.Author.Rules.{rules}
 use lib.ListN.{length}
 use Rattle.refusal.specs.Rows.{check_of}
 use Rattle.book.specs.Books.{listed_rows}
@@ -14,18 +13,15 @@ serve-last-requires c =
     let checked : let a = c.args in c.check.result ≡ check_of (run_rows a.book (length a.refunds.now) (length a.coefficients.now) (length a.payouts.now) (length a.numbers.now)) =
     let a = c.args in
     c.check.ensures ∙ ap₂ (λ (x y : Bool). check_of (listed_rows a.book x y)) c.unequal-broken.ensures c.too_short-short.ensures in
-    let told = c in
-    let k = told in
-    let a = k.args in
-    let fit = run_fit a.book (length a.refunds.now) (length a.coefficients.now) (length a.payouts.now) (length a.numbers.now) (sym checked ∙ told.in-Passed.is) in record { sound = fit.0; fit = fit.1 }
+    let a = c.args in
+    let fit = run_fit a.book (length a.refunds.now) (length a.coefficients.now) (length a.payouts.now) (length a.numbers.now) (sym checked ∙ c.in-Passed.is) in record { sound = fit.0; fit = fit.1 }
 
 pub returns-in-Refused : goal.returns-in-Refused
 returns-in-Refused c =
     let checked : let a = c.args in c.check.result ≡ check_of (run_rows a.book (length a.refunds.now) (length a.coefficients.now) (length a.payouts.now) (length a.numbers.now)) =
     let a = c.args in
     c.check.ensures ∙ ap₂ (λ (x y : Bool). check_of (listed_rows a.book x y)) c.unequal-broken.ensures c.too_short-short.ensures in
-    let k = c in
-    let a = k.args in
+    let a = c.args in
     run_refused a.book a.refunds.now a.coefficients.now a.payouts.now a.numbers.now c.in-Refused.refusal
     (sym checked ∙ c.in-Refused.is)
 
@@ -34,9 +30,6 @@ returns-in-Passed c =
     let checked : let a = c.args in c.check.result ≡ check_of (run_rows a.book (length a.refunds.now) (length a.coefficients.now) (length a.payouts.now) (length a.numbers.now)) =
     let a = c.args in
     c.check.ensures ∙ ap₂ (λ (x y : Bool). check_of (listed_rows a.book x y)) c.unequal-broken.ensures c.too_short-short.ensures in
-    let served = c in
-    let told = served in
-    let k = told in
-    let a = k.args in
+    let a = c.args in
     run_passed a.book a.refunds.now a.coefficients.now a.payouts.now a.numbers.now
-    (sym checked ∙ told.in-Passed.is) served.serve-last.ensures
+    (sym checked ∙ c.in-Passed.is) c.serve-last.ensures

@@ -1,131 +1,105 @@
 -- After j turns the first j calls are served for the book at the net total so far, whose totals are held. Assumes nothing.
 use mathlib.Core.Path.{◌≡◌, refl, sym, ap, ◌∙◌}
-use Prim.Native.Nat.{◌+◌, ◌*◌, ◌-◌, ◌^◌, ◌≤◌, ◌<◌}
+use mathlib.Core.Bool.{Bool, cond}
+use mathlib.Core.List.{List}
+use Prim.Native.Nat.{ℕ, ◌+◌, ◌≤◌}
 use native.Mathlib.Omega.{arith}
 use borrow.Author.Rules.{rules}
+use lib.IntN.{ℤ}
 use lib.ListN.{length}
 use Rattle.refusal.specs.Rows.{gives}
 use mir.Syntax.{w64}
-use mir.Val.{Fits, SFits}
+use mir.Val.{SFits, to_z, of_z}
 use mir.ValLaws.{to_z-of_z}
 use Rattle.whole.specs.Whole.{magnitude_of}
 use Rattle.whole.proofs.Laws.{read_back}
 use Rattle.amount.specs.Amounts.{largest}
-use Rattle.units.specs.Rule.{totals}
+use Rattle.book.specs.declared.Book.{Book}
+use Rattle.book.specs.Settled.{any_over}
 use Rattle.book.specs.Books.{settled_sum}
 use Rattle.book.specs.Moves.{net_of, next_book}
+use Rattle.bulk.specs.Left.{Sound}
 use Rattle.bulk.specs.Serving.{ServedTo}
 use Rattle.bulk.proofs.Steps.{served_lengths}
 use Rattle.bulk.proofs.LeftSaid.{step_within}
 use Rattle.bulk.proofs.Standing.{sound_net, sound_settled, Serving, serving_start, serving_step}
 use Rattle.bulk.proofs.tabled.by_rows.Goals as goal
 
+-- what is settled and the net total that a run starts with, as the program has them
+record Started (b : Book) (settled start : ℕ) : Type 0 where
+  pub sum : settled ≡ settled_sum b
+  pub net : start ≡ net_of b
+  pub limit : settled + start ≤ largest
+
+started : (b : Book) → Sound b → (settled start : ℕ) → settled ≡ cond (any_over b.settled) 0 (settled_sum b)
+    → SFits w64 b.net → start ≡ magnitude_of (to_z w64 (of_z w64 b.net)) → Started b settled start
+started b sound settled start e fits f =
+    let sum : settled ≡ settled_sum b = sound_settled b sound settled e in
+    let net : start ≡ net_of b = f ∙ ap magnitude_of (to_z-of_z w64 b.net fits) in
+    record { sum = sum; net = net; limit = rw (net, sum) (sound_net b sound).1 }
+
+-- so the run has served the book, and the lent lists keep their lengths
+module _ (b : Book) (sound : Sound b) (refunds : List Bool) (coefficients : List ℤ) (payouts numbers : List ℕ) (settled start : ℕ) (s : Started b settled start)
+    (j n : ℕ) (ps ns : List ℕ) (so_far : Serving refunds coefficients payouts numbers b.weights settled start j n ps ns) where
+  served : ServedTo b refunds coefficients payouts numbers j (next_book b (gives n)) ps ns
+  served = so_far b sound refl (sym s.sum) (sym s.net)
+
+  lengths : (length ps ≡ length payouts) × (length ns ≡ length numbers)
+  lengths = served_lengths b refunds coefficients payouts numbers served
+
 pub totals_by-held-requires : goal.totals_by-held-requires
 totals_by-held-requires c =
-    let net : c.magnitude-net.result ≡ net_of c.args.book =
-    let z = c.args.book.net in
-    let fits : SFits w64 z = search rules in c.magnitude-net.ensures ∙ ap magnitude_of (to_z-of_z w64 z fits) in
-    let sum : c.settled_sum-settled.result ≡ settled_sum c.args.book =
-    let s = c in
-    sound_settled s.args.book s.requires.sound c.settled_sum-settled.result c.settled_sum-settled.ensures in
-    let limit : c.settled_sum-settled.result + c.magnitude-net.result ≤ largest = let s = c in rw (net, sum) (sound_net s.args.book s.requires.sound).1 in
-    let s = c in record { weighed = s.requires.weighed; cycled = s.requires.cycled; n_le_largest = omega (arith, limit) }
+    let r = c.requires in
+    let s = started c.args.book r.sound _ c.magnitude-net.result c.settled_sum-settled.ensures (search rules) c.magnitude-net.ensures in
+    record { weighed = r.weighed; cycled = r.cycled; n_le_largest = omega (arith, s.limit) }
 
 pub loop-j-init : goal.loop-j-init
 loop-j-init c =
-    let net : c.magnitude-net.result ≡ net_of c.args.book =
-    let z = c.args.book.net in
-    let fits : SFits w64 z = search rules in c.magnitude-net.ensures ∙ ap magnitude_of (to_z-of_z w64 z fits) in
-    let sum : c.settled_sum-settled.result ≡ settled_sum c.args.book =
-    let s = c in
-    sound_settled s.args.book s.requires.sound c.settled_sum-settled.result c.settled_sum-settled.ensures in
-    let limit : c.settled_sum-settled.result + c.magnitude-net.result ≤ largest = let s = c in rw (net, sum) (sound_net s.args.book s.requires.sound).1 in
-    (search rules, limit, c.totals_by-held.ensures, serving_start _ _ _ _ _ _ _)
+    let s = started c.args.book c.requires.sound _ _ c.settled_sum-settled.ensures (search rules) c.magnitude-net.ensures in
+    (search rules, s.limit, c.totals_by-held.ensures, serving_start _ _ _ _ _ _ _)
 
 pub step-net-requires : goal.step-net-requires
 step-net-requires c =
-    let net : c.magnitude-net.result ≡ net_of c.args.book =
-    let z = c.args.book.net in
-    let fits : SFits w64 z = search rules in c.magnitude-net.ensures ∙ ap magnitude_of (to_z-of_z w64 z fits) in
-    let sum : c.settled_sum-settled.result ≡ settled_sum c.args.book =
-    let s = c in
-    sound_settled s.args.book s.requires.sound c.settled_sum-settled.result c.settled_sum-settled.ensures in
-    let served : let s = c in ServedTo s.args.book s.args.refunds.now s.args.coefficients.now s.args.payouts.now s.args.numbers.now c.loop-j.j (next_book s.args.book (gives c.loop-j.net)) c.loop-j.payouts c.loop-j.numbers =
-    let s = c in
-    c.loop-j.invariant.3 s.args.book s.requires.sound refl (sym sum) (sym net) in
-    let lengths : let s = c in (length c.loop-j.payouts ≡ length s.args.payouts.now) × (length c.loop-j.numbers ≡ length s.args.numbers.now) =
     let a = c.args in
-    served_lengths a.book a.refunds.now a.coefficients.now a.payouts.now a.numbers.now served in
-    let at = c in
-    let long = lengths in
-    let s = at in
-    let inside = c.loop-j-test.true in record {
-      weighed = s.requires.weighed;
-      cycled = s.requires.cycled;
-      net_bound = (at.loop-j.invariant.1, at.loop-j.invariant.2);
+    let r = c.requires in
+    let l = c.loop-j in
+    let s = started a.book r.sound _ c.magnitude-net.result c.settled_sum-settled.ensures (search rules) c.magnitude-net.ensures in
+    let long = lengths a.book r.sound a.refunds.now a.coefficients.now a.payouts.now a.numbers.now _ _ s l.j l.net l.payouts l.numbers l.invariant.3 in
+    record {
+      weighed = r.weighed;
+      cycled = r.cycled;
+      net_bound = (l.invariant.1, l.invariant.2);
       partners_in_bounds = (omega arith, omega arith);
     }
 
-pub overflow_add-j : goal.overflow_add-j
-overflow_add-j c =
-    let next : c.loop-j.j + 1 < 2 ^ 64 = let h : Fits w64 (c.loop-j.j * 8) = mul-step c in omega (arith, h.fits) in
-    record { fits = next }
-
 pub loop-j-preserved : goal.loop-j-preserved
-loop-j-preserved c = let t = c.step-net in
-    let test = c in
-    let at = test in
-    let a = at.args in
-    let k = c.step-arg-1.given in (
-      omega (arith, test.loop-j-test.true),
-      step_within at.loop-j.invariant.1 t.ensures,
+loop-j-preserved c =
+    let t = c.step-net in
+    let a = c.args in (
+      omega (arith, c.loop-j-test.true),
+      step_within c.loop-j.invariant.1 t.ensures,
       t.ensures.held,
-      serving_step a.refunds.now a.coefficients.now a.payouts.now a.numbers.now a.book.weights _ _ _ (read_back _ k) at.loop-j.invariant.1 at.loop-j.invariant.3 t.ensures,
+      serving_step a.refunds.now a.coefficients.now a.payouts.now a.numbers.now a.book.weights _ _ _ (read_back _ (search rules)) c.loop-j.invariant.1 c.loop-j.invariant.3 t.ensures,
     )
 
 pub shape_of-payouts : goal.shape_of-payouts
 shape_of-payouts c =
-    let net : c.magnitude-net.result ≡ net_of c.args.book =
-    let z = c.args.book.net in
-    let fits : SFits w64 z = search rules in c.magnitude-net.ensures ∙ ap magnitude_of (to_z-of_z w64 z fits) in
-    let sum : c.settled_sum-settled.result ≡ settled_sum c.args.book =
-    let s = c in
-    sound_settled s.args.book s.requires.sound c.settled_sum-settled.result c.settled_sum-settled.ensures in
-    let served : let s = c in ServedTo s.args.book s.args.refunds.now s.args.coefficients.now s.args.payouts.now s.args.numbers.now c.loop-j.j (next_book s.args.book (gives c.loop-j.net)) c.loop-j.payouts c.loop-j.numbers =
-    let s = c in
-    c.loop-j.invariant.3 s.args.book s.requires.sound refl (sym sum) (sym net) in
-    let lengths : let s = c in (length c.loop-j.payouts ≡ length s.args.payouts.now) × (length c.loop-j.numbers ≡ length s.args.numbers.now) =
     let a = c.args in
-    served_lengths a.book a.refunds.now a.coefficients.now a.payouts.now a.numbers.now served in
-    lengths.0
+    let l = c.loop-j in
+    let s = started a.book c.requires.sound _ c.magnitude-net.result c.settled_sum-settled.ensures (search rules) c.magnitude-net.ensures in
+    (lengths a.book c.requires.sound a.refunds.now a.coefficients.now a.payouts.now a.numbers.now _ _ s l.j l.net l.payouts l.numbers l.invariant.3).0
 
 pub shape_of-numbers : goal.shape_of-numbers
 shape_of-numbers c =
-    let net : c.magnitude-net.result ≡ net_of c.args.book =
-    let z = c.args.book.net in
-    let fits : SFits w64 z = search rules in c.magnitude-net.ensures ∙ ap magnitude_of (to_z-of_z w64 z fits) in
-    let sum : c.settled_sum-settled.result ≡ settled_sum c.args.book =
-    let s = c in
-    sound_settled s.args.book s.requires.sound c.settled_sum-settled.result c.settled_sum-settled.ensures in
-    let served : let s = c in ServedTo s.args.book s.args.refunds.now s.args.coefficients.now s.args.payouts.now s.args.numbers.now c.loop-j.j (next_book s.args.book (gives c.loop-j.net)) c.loop-j.payouts c.loop-j.numbers =
-    let s = c in
-    c.loop-j.invariant.3 s.args.book s.requires.sound refl (sym sum) (sym net) in
-    let lengths : let s = c in (length c.loop-j.payouts ≡ length s.args.payouts.now) × (length c.loop-j.numbers ≡ length s.args.numbers.now) =
     let a = c.args in
-    served_lengths a.book a.refunds.now a.coefficients.now a.payouts.now a.numbers.now served in
-    lengths.1
+    let l = c.loop-j in
+    let s = started a.book c.requires.sound _ c.magnitude-net.result c.settled_sum-settled.ensures (search rules) c.magnitude-net.ensures in
+    (lengths a.book c.requires.sound a.refunds.now a.coefficients.now a.payouts.now a.numbers.now _ _ s l.j l.net l.payouts l.numbers l.invariant.3).1
 
 pub returns : goal.returns
 returns c =
-    let net : c.magnitude-net.result ≡ net_of c.args.book =
-    let z = c.args.book.net in
-    let fits : SFits w64 z = search rules in c.magnitude-net.ensures ∙ ap magnitude_of (to_z-of_z w64 z fits) in
-    let sum : c.settled_sum-settled.result ≡ settled_sum c.args.book =
-    let s = c in
-    sound_settled s.args.book s.requires.sound c.settled_sum-settled.result c.settled_sum-settled.ensures in
-    let served : let s = c in ServedTo s.args.book s.args.refunds.now s.args.coefficients.now s.args.payouts.now s.args.numbers.now c.loop-j.j (next_book s.args.book (gives c.loop-j.net)) c.loop-j.payouts c.loop-j.numbers =
-    let s = c in
-    c.loop-j.invariant.3 s.args.book s.requires.sound refl (sym sum) (sym net) in
     let a = c.args in
-    let e : c.loop-j.j ≡ length a.refunds.now = omega arith in
-    (omega (arith, c.loop-j.invariant.1), rw e at served)
+    let l = c.loop-j in
+    let s = started a.book c.requires.sound _ c.magnitude-net.result c.settled_sum-settled.ensures (search rules) c.magnitude-net.ensures in
+    let e : l.j ≡ length a.refunds.now = omega arith in
+    (omega (arith, l.invariant.1), rw e at (served a.book c.requires.sound a.refunds.now a.coefficients.now a.payouts.now a.numbers.now _ _ s l.j l.net l.payouts l.numbers l.invariant.3))

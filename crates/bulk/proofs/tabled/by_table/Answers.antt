@@ -1,9 +1,7 @@
 -- The table has the cycle's rows, and the book is the given one at the last net total, which an i64 holds. Assumes nothing.
 use mathlib.Core.Path.{◌≡◌, sym, ap, subst, ◌∙◌}
 use mathlib.Core.Bool.{false}
-use mathlib.Core.List.{List}
 use native.Mathlib.Omega.{arith}
-use borrow.Author.Rules.{rules}
 use lib.IntN.{pos}
 use mir.Syntax.{w64}
 use mir.Val.{to_z, of_z}
@@ -15,13 +13,12 @@ use Rattle.cycle.proofs.Table.{has_rows}
 use Rattle.bulk.proofs.tabled.by_table.Goals as goal
 
 pub by_rows-net-requires : goal.by_rows-net-requires
-by_rows-net-requires c = let f = c in
-    let s = f in
-    let a = s.args in record {
-      sound = s.requires.sound;
-      weighed = s.requires.weighed;
-      cycled = subst (Cycled a.book.weights a.sum) (sym f.fill_cycle.ensures) (has_rows a.book.weights _ a.sum s.requires.weighed s.requires.weighed.most);
-      fit = s.requires.fit;
+by_rows-net-requires c =
+    let a = c.args in record {
+      sound = c.requires.sound;
+      weighed = c.requires.weighed;
+      cycled = subst (Cycled a.book.weights a.sum) (sym c.fill_cycle.ensures) (has_rows a.book.weights _ a.sum c.requires.weighed c.requires.weighed.most);
+      fit = c.requires.fit;
     }
 
 pub returns : goal.returns

@@ -7,7 +7,6 @@ use Rattle.refusal.specs.Rows.{refuses}
 use Rattle.bulk.specs.Runs.{number_said}
 use Rattle.bulk.specs.Left.{left_said}
 use Rattle.bulk.proofs.LeftSaid.{same_either}
-use borrow.Author.Rules.{rules}
 use Rattle.bulk.proofs.tabled.check_call.Goals as goal
 
 pub returns-then-m-gt-L : goal.returns-then-m-gt-L

@@ -1,8 +1,6 @@
 -- After i turns the first i differences stand from the place on. Assumes nothing.
 use mathlib.Core.Path.{◌≡◌, refl, sym, ap, ◌∙◌}
-use Prim.Native.Nat.{◌-◌, ◌≤◌}
 use native.Mathlib.Omega.{arith}
-use borrow.Author.Rules.{rules}
 use lib.ListN.{length, get_or}
 use Rattle.book.specs.Moves.{less_of}
 use Rattle.running.proofs.Places.{less_place}
@@ -15,12 +13,6 @@ loop-i-init c = (omega arith, fill_none _ _ _)
 
 pub overflow_sub-out : goal.overflow_sub-out
 overflow_sub-out c = omega (arith, c.requires.by_index c.loop-i.i)
-
-pub overflow_add-out : goal.overflow_add-out
-overflow_add-out c = omega arith
-
-pub offset_bounds-out-at : goal.offset_bounds-out-at
-offset_bounds-out-at c = omega arith
 
 pub bounds-out-at : goal.bounds-out-at
 bounds-out-at c =

@@ -1,12 +1,7 @@
 -- After i turns the first i differences stand from the place on. Assumes nothing.
-use mathlib.Core.Path.{◌≡◌, refl, sym, ap, ◌∙◌}
+use mathlib.Core.Path.{◌≡◌}
 use Prim.Native.Nat.{◌-◌, ◌≤◌}
-use native.Mathlib.Omega.{arith}
-use borrow.Author.Rules.{rules}
-use lib.ListN.{length, get_or}
 use Rattle.book.specs.Moves.{less_of}
-use Rattle.running.proofs.Places.{less_place}
-use Rattle.whole.proofs.Lists.{fill_none, fill_more, length_filled}
 use Rattle.bulk.specs.Runs.{written}
 use Rattle.bulk.proofs.tabled.pay.Given as goal
 

@@ -3,7 +3,6 @@
 use mathlib.Core.Path.{◌≡◌, sym, ap, ◌∙◌}
 use Prim.Native.Nat.{◌+◌, ◌≤◌}
 use native.Mathlib.Omega.{arith}
-use borrow.Author.Rules.{rules}
 use mir.Syntax.{w64}
 use mir.ValLaws.{to_z-of_z}
 use Rattle.whole.specs.Whole.{negative, magnitude_of}
@@ -13,99 +12,80 @@ use Rattle.bulk.proofs.tabled.step.Goals as goal
 
 pub returns-then-number-ne0 : goal.returns-then-number-ne0
 returns-then-number-ne0 c =
-    let same-m : c.magnitude-m.result ≡ magnitude_of c.args.coefficient =
-    let s = c in
-    c.magnitude-m.ensures ∙ ap magnitude_of (to_z-of_z w64 s.args.coefficient s.ranges.coefficient) in
+    let same_m : c.magnitude-m.result ≡ magnitude_of c.args.coefficient =
+    c.magnitude-m.ensures ∙ ap magnitude_of (to_z-of_z w64 c.args.coefficient c.ranges.coefficient) in
     let same_sign : c.is_negative.result ≡ negative c.args.coefficient =
-    let s = c in
-    c.is_negative.ensures ∙ ap negative (to_z-of_z w64 s.args.coefficient s.ranges.coefficient) in
-    let k = c in
-    let st = k in
-    let a = st.args in
-    step_refused a.settled a.weights a.refund a.coefficient a.j a.net k.magnitude-m.result k.check_call-number.result
-    k.is_negative.result a.payouts.now a.numbers.now a.held.now _ same_sign same-m
-    k.check_call-number.ensures st.requires.net_bound.1 c.if-number-ne0.true c.write.ensures
+    c.is_negative.ensures ∙ ap negative (to_z-of_z w64 c.args.coefficient c.ranges.coefficient) in
+    let a = c.args in
+    step_refused a.settled a.weights a.refund a.coefficient a.j a.net c.magnitude-m.result c.check_call-number.result
+    c.is_negative.result a.payouts.now a.numbers.now a.held.now _ same_sign same_m
+    c.check_call-number.ensures c.requires.net_bound.1 c.if-number-ne0.true c.write.ensures
 
 pub overflow_sub-next : goal.overflow_sub-next
 overflow_sub-next c =
     let refunds : c.magnitude-m.result ≤ c.args.net =
-    let k = c in
-    let a = k.args in
-    (left_refunds a.settled a.refund k.is_negative.result k.magnitude-m.result a.net
-    (sym k.check_call-number.ensures ∙ c.if-number-ne0.false) c.if-refund.true).1 in
+    let a = c.args in
+    (left_refunds a.settled a.refund c.is_negative.result c.magnitude-m.result a.net
+    (sym c.check_call-number.ensures ∙ c.if-number-ne0.false) c.if-refund.true).1 in
     refunds
 
 pub totals_by-totals-requires : goal.totals_by-totals-requires
-totals_by-totals-requires c = let s = c in record {
-  weighed = s.requires.weighed;
-  cycled = s.requires.cycled;
-  n_le_largest = omega (arith, s.requires.net_bound.0);
+totals_by-totals-requires c = record {
+  weighed = c.requires.weighed;
+  cycled = c.requires.cycled;
+  n_le_largest = omega (arith, c.requires.net_bound.0);
 }
 
 pub pay-requires : goal.pay-requires
-pay-requires c = let t = c in
-    let s = t in
-    let a = s.args in record {
-      by_index = totals_rise a.weights s.requires.weighed _ a.net _ _ (omega arith) t.totals_by-totals.ensures s.requires.net_bound.1;
+pay-requires c =
+    let a = c.args in record {
+      by_index = totals_rise a.weights c.requires.weighed _ a.net _ _ (omega arith) c.totals_by-totals.ensures c.requires.net_bound.1;
       partners_in_bounds = omega arith;
     }
 
 pub returns-then-refund : goal.returns-then-refund
 returns-then-refund c =
-    let same-m : c.magnitude-m.result ≡ magnitude_of c.args.coefficient =
-    let s = c in
-    c.magnitude-m.ensures ∙ ap magnitude_of (to_z-of_z w64 s.args.coefficient s.ranges.coefficient) in
+    let same_m : c.magnitude-m.result ≡ magnitude_of c.args.coefficient =
+    c.magnitude-m.ensures ∙ ap magnitude_of (to_z-of_z w64 c.args.coefficient c.ranges.coefficient) in
     let same_sign : c.is_negative.result ≡ negative c.args.coefficient =
-    let s = c in
-    c.is_negative.ensures ∙ ap negative (to_z-of_z w64 s.args.coefficient s.ranges.coefficient) in
-    let t = c in
-    let k = t in
-    let s = k in
-    let a = s.args in
-    step_refunded a.settled a.weights a.refund a.coefficient a.j a.net k.magnitude-m.result k.check_call-number.result
-    k.is_negative.result a.payouts.now a.numbers.now a.held.now _ same_sign same-m
-    k.check_call-number.ensures s.requires.net_bound.1 t.if-number-ne0.false t.totals_by-totals.result t.if-refund.true t.totals_by-totals.ensures
+    c.is_negative.ensures ∙ ap negative (to_z-of_z w64 c.args.coefficient c.ranges.coefficient) in
+    let a = c.args in
+    step_refunded a.settled a.weights a.refund a.coefficient a.j a.net c.magnitude-m.result c.check_call-number.result
+    c.is_negative.result a.payouts.now a.numbers.now a.held.now _ same_sign same_m
+    c.check_call-number.ensures c.requires.net_bound.1 c.if-number-ne0.false c.totals_by-totals.result c.if-refund.true c.totals_by-totals.ensures
     c.pay.ensures
 
 pub overflow_add-next : goal.overflow_add-next
 overflow_add-next c =
     let posts : c.args.settled + (c.args.net + c.magnitude-m.result) ≤ largest =
-    let k = c in
-    let a = k.args in
-    (left_posts a.settled a.refund k.is_negative.result k.magnitude-m.result a.net
-    (sym k.check_call-number.ensures ∙ c.if-number-ne0.false) c.if-refund.false).1 in
+    let a = c.args in
+    (left_posts a.settled a.refund c.is_negative.result c.magnitude-m.result a.net
+    (sym c.check_call-number.ensures ∙ c.if-number-ne0.false) c.if-refund.false).1 in
     omega (arith, posts)
 
 pub totals_by-totals-requires-2 : goal.totals_by-totals-requires-2
 totals_by-totals-requires-2 c =
     let posts : c.args.settled + (c.args.net + c.magnitude-m.result) ≤ largest =
-    let k = c in
-    let a = k.args in
-    (left_posts a.settled a.refund k.is_negative.result k.magnitude-m.result a.net
-    (sym k.check_call-number.ensures ∙ c.if-number-ne0.false) c.if-refund.false).1 in
-    let s = c in record { weighed = s.requires.weighed; cycled = s.requires.cycled; n_le_largest = omega (arith, posts) }
+    let a = c.args in
+    (left_posts a.settled a.refund c.is_negative.result c.magnitude-m.result a.net
+    (sym c.check_call-number.ensures ∙ c.if-number-ne0.false) c.if-refund.false).1 in
+    record { weighed = c.requires.weighed; cycled = c.requires.cycled; n_le_largest = omega (arith, posts) }
 
 pub pay-requires-2 : goal.pay-requires-2
-pay-requires-2 c = let t = c in
-    let s = t in
-    let a = s.args in record {
-      by_index = totals_rise a.weights s.requires.weighed a.net _ _ _ (omega arith) s.requires.net_bound.1 t.totals_by-totals-2.ensures;
+pay-requires-2 c =
+    let a = c.args in record {
+      by_index = totals_rise a.weights c.requires.weighed a.net _ _ _ (omega arith) c.requires.net_bound.1 c.totals_by-totals-2.ensures;
       partners_in_bounds = omega arith;
     }
 
 pub returns : goal.returns
 returns c =
-    let same-m : c.magnitude-m.result ≡ magnitude_of c.args.coefficient =
-    let s = c in
-    c.magnitude-m.ensures ∙ ap magnitude_of (to_z-of_z w64 s.args.coefficient s.ranges.coefficient) in
+    let same_m : c.magnitude-m.result ≡ magnitude_of c.args.coefficient =
+    c.magnitude-m.ensures ∙ ap magnitude_of (to_z-of_z w64 c.args.coefficient c.ranges.coefficient) in
     let same_sign : c.is_negative.result ≡ negative c.args.coefficient =
-    let s = c in
-    c.is_negative.ensures ∙ ap negative (to_z-of_z w64 s.args.coefficient s.ranges.coefficient) in
-    let t = c in
-    let k = t in
-    let s = k in
-    let a = s.args in
-    step_posted a.settled a.weights a.refund a.coefficient a.j a.net k.magnitude-m.result k.check_call-number.result
-    k.is_negative.result a.payouts.now a.numbers.now a.held.now _ same_sign same-m
-    k.check_call-number.ensures s.requires.net_bound.1 t.if-number-ne0.false t.totals_by-totals-2.result t.if-refund.false t.totals_by-totals-2.ensures
+    c.is_negative.ensures ∙ ap negative (to_z-of_z w64 c.args.coefficient c.ranges.coefficient) in
+    let a = c.args in
+    step_posted a.settled a.weights a.refund a.coefficient a.j a.net c.magnitude-m.result c.check_call-number.result
+    c.is_negative.result a.payouts.now a.numbers.now a.held.now _ same_sign same_m
+    c.check_call-number.ensures c.requires.net_bound.1 c.if-number-ne0.false c.totals_by-totals-2.result c.if-refund.false c.totals_by-totals-2.ensures
     c.pay-2.ensures

@@ -1,12 +1,7 @@
 -- After j turns the first j calls are served. Assumes nothing.
-use mathlib.Core.Path.{◌≡◌}
 use Prim.Native.Nat.{◌-◌, ◌≤◌}
-use native.Mathlib.Omega.{arith}
-use borrow.Author.Rules.{rules}
 use lib.ListN.{length}
-use Rattle.whole.proofs.Laws.{read_back}
 use Rattle.bulk.specs.Serving.{ServedTo}
-use Rattle.bulk.proofs.Steps.{served_start, served_lengths, served_step}
 use Rattle.bulk.proofs.turns.one_by_one.Given as goal
 
 abbrev pub invariant-loop-j : goal.invariant-loop-j

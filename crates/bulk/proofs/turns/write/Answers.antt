@@ -1,8 +1,6 @@
 -- After i turns the first i payouts stand from the place on. Assumes nothing.
 use mathlib.Core.Path.{◌≡◌, refl, ap, ◌∙◌}
-use Prim.Native.Nat.{◌-◌, ◌≤◌}
 use native.Mathlib.Omega.{arith}
-use borrow.Author.Rules.{rules}
 use lib.ListN.{length, get_or}
 use Rattle.whole.proofs.Lists.{fill_none, fill_more, length_filled}
 use Rattle.bulk.specs.Runs.{written}
@@ -10,12 +8,6 @@ use Rattle.bulk.proofs.turns.write.Goals as goal
 
 pub loop-i-init : goal.loop-i-init
 loop-i-init c = (omega arith, fill_none _ _ _)
-
-pub overflow_add-out : goal.overflow_add-out
-overflow_add-out c = omega arith
-
-pub offset_bounds-out-at : goal.offset_bounds-out-at
-offset_bounds-out-at c = omega arith
 
 pub bounds-out-at : goal.bounds-out-at
 bounds-out-at c =

@@ -1,10 +1,6 @@
 -- After i turns the first i payouts stand from the place on. Assumes nothing.
-use mathlib.Core.Path.{◌≡◌, refl, ap, ◌∙◌}
+use mathlib.Core.Path.{◌≡◌}
 use Prim.Native.Nat.{◌-◌, ◌≤◌}
-use native.Mathlib.Omega.{arith}
-use borrow.Author.Rules.{rules}
-use lib.ListN.{length, get_or}
-use Rattle.whole.proofs.Lists.{fill_none, fill_more, length_filled}
 use Rattle.bulk.specs.Runs.{written}
 use Rattle.bulk.proofs.turns.write.Given as goal
 

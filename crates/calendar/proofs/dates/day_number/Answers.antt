@@ -1,5 +1,4 @@
 -- The years, the months and the day add up as in the definition, and the number of an existing date is small. Assumes nothing.
-use borrow.Author.Rules.{rules}
 use native.Mathlib.Omega.{arith}
 use Rattle.calendar.specs.Calendar.{day_number}
 use Rattle.calendar.proofs.Order.{dated, number_within}

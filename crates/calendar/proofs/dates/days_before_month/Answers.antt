@@ -2,7 +2,6 @@
 use mathlib.Core.Path.{sym, ◌∙◌}
 use Prim.Native.Nat.{◌-◌}
 use native.Mathlib.Omega.{arith}
-use borrow.Author.Rules.{rules}
 use Rattle.calendar.proofs.Months.{months_rise, year_within, behind_february, before_march, common_year}
 use Rattle.calendar.proofs.dates.days_before_month.Goals as goal
 

@@ -1,5 +1,4 @@
 -- The closed form of the days of the years. Assumes nothing.
-use borrow.Author.Rules.{rules}
 use Rattle.calendar.proofs.Years.{days_of_years_lem}
 use Rattle.calendar.proofs.dates.days_before_year.Goals as goal
 

@@ -1,6 +1,5 @@
 -- Each test of the code is the definition's. Assumes nothing.
 use native.Mathlib.Omega.{arith}
-use borrow.Author.Rules.{rules}
 use borrow.Author.Tests.{le-leb, lt-leb}
 use Prim.Native.Nat.{◌≤◌}
 use Rattle.calendar.specs.Calendar.{month_length, exists}

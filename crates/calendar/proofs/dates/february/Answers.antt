@@ -1,6 +1,5 @@
 -- The code's test is the definition's. Assumes nothing.
 use mathlib.Core.Path.{sym, ◌∙◌}
-use borrow.Author.Rules.{rules}
 use Rattle.calendar.specs.Calendar.{month_length}
 use Rattle.calendar.proofs.dates.february.Goals as goal
 

@@ -1,10 +1,6 @@
 -- February, the four months of 30 days, and those of 31. Assumes nothing.
-use borrow.Author.Rules.{rules}
 use Rattle.calendar.proofs.Months.{long_month, short_month}
 use Rattle.calendar.proofs.dates.month_length.Goals as goal
-
-pub returns-in-2 : goal.returns-in-2
-returns-in-2 c = rw c.in-2.is c.february.ensures
 
 pub returns-in-4 : goal.returns-in-4
 returns-in-4 c = short_month c.args.year c.args.month c.in-4.is

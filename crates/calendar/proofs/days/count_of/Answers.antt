@@ -2,24 +2,10 @@
 use mathlib.Core.Path.{sym, ◌∙◌, ap, ap₂}
 use Prim.Native.Nat.{ℕ, ◌-◌}
 use native.Mathlib.Omega.{arith}
-use borrow.Author.Rules.{rules}
 use Rattle.calendar.specs.DayCount.{actual, clipped, american, difference}
 use Rattle.calendar.proofs.Bases.{counts_actual}
 use Rattle.calendar.proofs.Thirty.{american_reads}
 use Rattle.calendar.proofs.days.count_of.Goals as goal
-
-pub thirty_days-requires : goal.thirty_days-requires
-thirty_days-requires c = let s = c in
-    record {
-      dates = s.requires.dates;
-      least = omega (arith, american_reads.least c.clip.result s.args.end.day, c.american_day.ensures);
-    }
-
-pub thirty_days-requires-in-3 : goal.thirty_days-requires-in-3
-thirty_days-requires-in-3 c = record { dates = c.requires.dates; least = omega (arith, c.clip-in-3.ensures) }
-
-pub overflow_sub-result : goal.overflow_sub-result
-overflow_sub-result c = let n = c.requires in omega (arith, n.first, n.second, n.dates.order)
 
 pub returns-in-2 : goal.returns-in-2
 returns-in-2 c = let clips = c in
@@ -28,11 +14,6 @@ returns-in-2 c = let clips = c in
     (c.thirty_days.ensures
     ∙ ap (difference a.start a.end (clipped a.start.day))
     (c.american_day.ensures ∙ ap (λ (x : ℕ). american x a.end.day) clips.clip.ensures))
-
-pub returns-in-3 : goal.returns-in-3
-returns-in-3 c = let a = c.args in
-    rw c.in-3.is
-    (c.thirty_days-in-3.ensures ∙ ap (difference a.start a.end (clipped a.start.day)) c.clip-in-3.ensures)
 
 pub returns-in_default : goal.returns-in_default
 unfolding actual

@@ -4,8 +4,7 @@ use mathlib.Core.Bool.{true, false}
 use mathlib.Core.List.{[], ◌∷◌}
 use native.Mathlib.Omega.{arith}
 use lib.Dec.{ltb}
-use borrow.Author.Rules.{rules}
-use borrow.Author.Tests.{le-leb, lt-leb, lt-ltb, le-ltb, not-true, not-false}
+use borrow.Author.Tests.{le-leb, lt-leb, lt-ltb, le-ltb}
 use Rattle.refusal.specs.declared.Refusal.TheVariants.{Days}
 use Rattle.refusal.specs.Rows.{gives, row, first_row}
 use Rattle.calendar.specs.DayCount.{day_of}
@@ -33,16 +32,6 @@ returns-then-not-date_exists-2 c =
     simp
     (basis_known, start_exists, sym c.date_exists-2.ensures ∙ c.if-not-date_exists-2.true)
 
-pub day_number-from-requires : goal.day_number-from-requires
-day_number-from-requires c =
-    let start_exists : date_exists c.args.start ≡ true = sym c.date_exists.ensures ∙ c.if-not-date_exists.false in
-    start_exists
-
-pub day_number-to-requires : goal.day_number-to-requires
-day_number-to-requires c =
-    let end_exists : date_exists c.args.end ≡ true = sym c.date_exists-2.ensures ∙ c.if-not-date_exists-2.false in
-    end_exists
-
 pub returns-then-to-from : goal.returns-then-to-from
 unfolding days_rows days_said
 returns-then-to-from c =
@@ -58,13 +47,6 @@ returns-then-to-from c =
       end_exists,
       lt-ltb (day_of a.end) (day_of a.start) (omega (arith, c.if-to-from.true, c.day_number-from.ensures, c.day_number-to.ensures)),
     )
-
-pub count_of-days-requires : goal.count_of-days-requires
-count_of-days-requires c =
-    let start_exists : date_exists c.args.start ≡ true = sym c.date_exists.ensures ∙ c.if-not-date_exists.false in
-    let end_exists : date_exists c.args.end ≡ true = sym c.date_exists-2.ensures ∙ c.if-not-date_exists-2.false in
-    let numbered : Numbered c.args.start c.args.end c.day_number-from.result c.day_number-to.result = let third = c in let from = c.day_number-from.ensures in let to = c.day_number-to.ensures in record { dates = record { first = start_exists; second = end_exists; order = omega (arith, c.if-to-from.false, from, to) }; first = from; second = to } in
-    numbered
 
 pub returns-then-days-gt366 : goal.returns-then-days-gt366
 returns-then-days-gt366 c =

@@ -1,6 +1,5 @@
 -- The two places differ as in the definition, and the first is not past the second. Assumes nothing.
 use native.Mathlib.Omega.{arith}
-use borrow.Author.Rules.{rules}
 use Rattle.calendar.specs.DayCount.{difference}
 use Rattle.calendar.proofs.Thirty.{place_rises}
 use Rattle.calendar.proofs.days.thirty_days.Goals as goal

@@ -1,7 +1,6 @@
 -- An unknown currency has no digits of its own; a known one has those of its line. Assumes nothing.
 use mathlib.Core.Path.{sym, ◌∙◌, ap}
 use mathlib.Core.Bool.{not}
-use borrow.Author.Rules.{rules}
 use borrow.Author.Tests.{lt-ltb, le-ltb}
 use lib.Dec.{eqb}
 use Rattle.currency.specs.declared.Line.{Line}

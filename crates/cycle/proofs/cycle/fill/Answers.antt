@@ -1,203 +1,99 @@
 -- Each turn writes a row and gives one unit to its taker. Assumes nothing.
 use mathlib.Core.Path.{◌≡◌}
-use Prim.Native.Nat.{◌+◌, ◌-◌, ◌<◌}
 use native.Mathlib.Omega.{arith}
 use borrow.Author.Rules.{rules}
 use lib.ListN.{length}
-use Rattle.units.specs.Rule.{place, taker_of}
-use Rattle.cycle.proofs.Taker.{taker_found}
-use Rattle.cycle.proofs.Walk.{Walked, walked_start, length_walked, row_inside, taker_inside, raised_within, walked_step, walked_end}
+use Rattle.cycle.proofs.Taker.{taker_found, found_inside}
+use Rattle.cycle.proofs.Walk.{walked_start, length_walked, row_inside, raised_within, walked_step, walked_end}
 use Rattle.cycle.proofs.cycle.fill.Goals as goal
 
 pub loop-n-init : goal.loop-n-init
 loop-n-init c =
-    let long : length c.args.weights ≡ 16 = search rules in
-    let s = c in
-    let a = s.args in
-    walked_start a.weights a.sum a.table.now s.requires.weighed long s.requires.sum_in_bounds c.due_numbers-due.result (search rules) c.due_numbers-due.ensures
-
-pub overflow_add-n : goal.overflow_add-n
-overflow_add-n c = let s = c in omega (arith, s.requires.weighed.most)
+    let a = c.args in
+    walked_start a.weights a.sum a.table.now c.requires.weighed (search rules) c.requires.sum_in_bounds c.due_numbers-due.result (search rules) c.due_numbers-due.ensures
 
 pub row-requires : goal.row-requires
-row-requires c = let s = c in record { weighed = s.requires.weighed; n_lt_sum = (c.loop-n-test.true, c.loop-n.invariant.walk.units) }
-
-pub overflow_cast-table : goal.overflow_cast-table
-overflow_cast-table c = let s = c in omega (arith, s.requires.weighed.most)
-
-pub offset_bounds-table-n : goal.offset_bounds-table-n
-offset_bounds-table-n c = let s = c in omega (arith, s.requires.weighed.most)
+row-requires c = record { weighed = c.requires.weighed; n_lt_sum = (c.loop-n-test.true, c.loop-n.invariant.walk.units) }
 
 pub bounds-table-n : goal.bounds-table-n
 bounds-table-n c =
-    let long : length c.args.weights ≡ 16 = search rules in
-    let s = c in
-    let a = s.args in
+    let a = c.args in
     let l = c.loop-n in
-    row_inside a.weights a.sum a.table.now s.requires.weighed long s.requires.sum_in_bounds l.n l.held l.due l.table l.invariant c.loop-n-test.true
+    row_inside a.weights a.sum a.table.now c.requires.weighed (search rules) c.requires.sum_in_bounds l.n l.held l.due l.table l.invariant c.loop-n-test.true
 
 pub offset_bounds-held-p : goal.offset_bounds-held-p
 offset_bounds-held-p c =
-    let long : length c.args.weights ≡ 16 = search rules in
-    let took : taker_of c.args.weights c.loop-n.held (c.loop-n.n + 1) ≡ place c.first_due-p.result =
-    let s = c in
-    let a = s.args in
+    let a = c.args in
     let l = c.loop-n in
-    taker_found a.weights a.sum l.n l.held l.due s.requires.weighed long c.loop-n-test.true l.invariant.walk c.first_due-p.result c.first_due-p.ensures in
-    let inside : c.first_due-p.result < 16 =
-    let s = c in
-    let a = s.args in
-    let l = c.loop-n in
-    taker_inside a.weights a.sum a.table.now s.requires.weighed long s.requires.sum_in_bounds l.n l.held l.due l.table l.invariant c.first_due-p.result c.loop-n-test.true took in
-    omega (arith, inside)
+    omega (arith, found_inside a.weights a.sum l.n l.held l.due c.requires.weighed (search rules) c.loop-n-test.true l.invariant.walk _ c.first_due-p.ensures)
 
 pub bounds-held-p : goal.bounds-held-p
 bounds-held-p c =
-    let long : length c.args.weights ≡ 16 = search rules in
-    let took : taker_of c.args.weights c.loop-n.held (c.loop-n.n + 1) ≡ place c.first_due-p.result =
-    let s = c in
-    let a = s.args in
+    let a = c.args in
     let l = c.loop-n in
-    taker_found a.weights a.sum l.n l.held l.due s.requires.weighed long c.loop-n-test.true l.invariant.walk c.first_due-p.result c.first_due-p.ensures in
-    let inside : c.first_due-p.result < 16 =
-    let s = c in
-    let a = s.args in
-    let l = c.loop-n in
-    taker_inside a.weights a.sum a.table.now s.requires.weighed long s.requires.sum_in_bounds l.n l.held l.due l.table l.invariant c.first_due-p.result c.loop-n-test.true took in
-    inside
+    found_inside a.weights a.sum l.n l.held l.due c.requires.weighed (search rules) c.loop-n-test.true l.invariant.walk _ c.first_due-p.ensures
 
 pub overflow_add-units : goal.overflow_add-units
 overflow_add-units c =
-    let long : length c.args.weights ≡ 16 = search rules in
-    let took : taker_of c.args.weights c.loop-n.held (c.loop-n.n + 1) ≡ place c.first_due-p.result =
-    let s = c in
-    let a = s.args in
+    let a = c.args in
     let l = c.loop-n in
-    taker_found a.weights a.sum l.n l.held l.due s.requires.weighed long c.loop-n-test.true l.invariant.walk c.first_due-p.result c.first_due-p.ensures in
-    let s = c in
-    let a = s.args in
-    let l = c.loop-n in
-    omega (arith, raised_within a.weights a.sum a.table.now s.requires.weighed long s.requires.sum_in_bounds l.n l.held l.due l.table l.invariant c.first_due-p.result c.loop-n-test.true took)
+    let long : length a.weights ≡ 16 = search rules in
+    let took = taker_found a.weights a.sum l.n l.held l.due c.requires.weighed long c.loop-n-test.true l.invariant.walk c.first_due-p.result c.first_due-p.ensures in
+    omega (arith, raised_within a.weights a.sum a.table.now c.requires.weighed long c.requires.sum_in_bounds l.n l.held l.due l.table l.invariant c.first_due-p.result c.loop-n-test.true took)
 
 pub offset_bounds-held-p-in-loop-n : goal.offset_bounds-held-p-in-loop-n
 offset_bounds-held-p-in-loop-n c =
-    let long : length c.args.weights ≡ 16 = search rules in
-    let took : taker_of c.args.weights c.loop-n.held (c.loop-n.n + 1) ≡ place c.first_due-p.result =
-    let s = c in
-    let a = s.args in
+    let a = c.args in
     let l = c.loop-n in
-    taker_found a.weights a.sum l.n l.held l.due s.requires.weighed long c.loop-n-test.true l.invariant.walk c.first_due-p.result c.first_due-p.ensures in
-    let inside : c.first_due-p.result < 16 =
-    let s = c in
-    let a = s.args in
-    let l = c.loop-n in
-    taker_inside a.weights a.sum a.table.now s.requires.weighed long s.requires.sum_in_bounds l.n l.held l.due l.table l.invariant c.first_due-p.result c.loop-n-test.true took in
-    omega (arith, inside)
+    omega (arith, found_inside a.weights a.sum l.n l.held l.due c.requires.weighed (search rules) c.loop-n-test.true l.invariant.walk _ c.first_due-p.ensures)
 
 pub bounds-held-p-in-loop-n : goal.bounds-held-p-in-loop-n
 bounds-held-p-in-loop-n c =
-    let long : length c.args.weights ≡ 16 = search rules in
-    let took : taker_of c.args.weights c.loop-n.held (c.loop-n.n + 1) ≡ place c.first_due-p.result =
-    let s = c in
-    let a = s.args in
+    let a = c.args in
     let l = c.loop-n in
-    taker_found a.weights a.sum l.n l.held l.due s.requires.weighed long c.loop-n-test.true l.invariant.walk c.first_due-p.result c.first_due-p.ensures in
-    let inside : c.first_due-p.result < 16 =
-    let s = c in
-    let a = s.args in
-    let l = c.loop-n in
-    taker_inside a.weights a.sum a.table.now s.requires.weighed long s.requires.sum_in_bounds l.n l.held l.due l.table l.invariant c.first_due-p.result c.loop-n-test.true took in
-    inside
+    found_inside a.weights a.sum l.n l.held l.due c.requires.weighed (search rules) c.loop-n-test.true l.invariant.walk _ c.first_due-p.ensures
 
 pub offset_bounds-weights-p : goal.offset_bounds-weights-p
 offset_bounds-weights-p c =
-    let long : length c.args.weights ≡ 16 = search rules in
-    let took : taker_of c.args.weights c.loop-n.held (c.loop-n.n + 1) ≡ place c.first_due-p.result =
-    let s = c in
-    let a = s.args in
+    let a = c.args in
     let l = c.loop-n in
-    taker_found a.weights a.sum l.n l.held l.due s.requires.weighed long c.loop-n-test.true l.invariant.walk c.first_due-p.result c.first_due-p.ensures in
-    let inside : c.first_due-p.result < 16 =
-    let s = c in
-    let a = s.args in
-    let l = c.loop-n in
-    taker_inside a.weights a.sum a.table.now s.requires.weighed long s.requires.sum_in_bounds l.n l.held l.due l.table l.invariant c.first_due-p.result c.loop-n-test.true took in
-    omega (arith, inside)
+    omega (arith, found_inside a.weights a.sum l.n l.held l.due c.requires.weighed (search rules) c.loop-n-test.true l.invariant.walk _ c.first_due-p.ensures)
 
 pub bounds-weights-p : goal.bounds-weights-p
 bounds-weights-p c =
-    let long : length c.args.weights ≡ 16 = search rules in
-    let took : taker_of c.args.weights c.loop-n.held (c.loop-n.n + 1) ≡ place c.first_due-p.result =
-    let s = c in
-    let a = s.args in
+    let a = c.args in
     let l = c.loop-n in
-    taker_found a.weights a.sum l.n l.held l.due s.requires.weighed long c.loop-n-test.true l.invariant.walk c.first_due-p.result c.first_due-p.ensures in
-    let inside : c.first_due-p.result < 16 =
-    let s = c in
-    let a = s.args in
-    let l = c.loop-n in
-    taker_inside a.weights a.sum a.table.now s.requires.weighed long s.requires.sum_in_bounds l.n l.held l.due l.table l.invariant c.first_due-p.result c.loop-n-test.true took in
-    inside
+    found_inside a.weights a.sum l.n l.held l.due c.requires.weighed (search rules) c.loop-n-test.true l.invariant.walk _ c.first_due-p.ensures
 
 pub offset_bounds-due-p : goal.offset_bounds-due-p
 offset_bounds-due-p c =
-    let long : length c.args.weights ≡ 16 = search rules in
-    let took : taker_of c.args.weights c.loop-n.held (c.loop-n.n + 1) ≡ place c.first_due-p.result =
-    let s = c in
-    let a = s.args in
+    let a = c.args in
     let l = c.loop-n in
-    taker_found a.weights a.sum l.n l.held l.due s.requires.weighed long c.loop-n-test.true l.invariant.walk c.first_due-p.result c.first_due-p.ensures in
-    let inside : c.first_due-p.result < 16 =
-    let s = c in
-    let a = s.args in
-    let l = c.loop-n in
-    taker_inside a.weights a.sum a.table.now s.requires.weighed long s.requires.sum_in_bounds l.n l.held l.due l.table l.invariant c.first_due-p.result c.loop-n-test.true took in
-    omega (arith, inside)
+    omega (arith, found_inside a.weights a.sum l.n l.held l.due c.requires.weighed (search rules) c.loop-n-test.true l.invariant.walk _ c.first_due-p.ensures)
 
 pub bounds-due-p : goal.bounds-due-p
 bounds-due-p c =
-    let long : length c.args.weights ≡ 16 = search rules in
-    let took : taker_of c.args.weights c.loop-n.held (c.loop-n.n + 1) ≡ place c.first_due-p.result =
-    let s = c in
-    let a = s.args in
+    let a = c.args in
     let l = c.loop-n in
-    taker_found a.weights a.sum l.n l.held l.due s.requires.weighed long c.loop-n-test.true l.invariant.walk c.first_due-p.result c.first_due-p.ensures in
-    let inside : c.first_due-p.result < 16 =
-    let s = c in
-    let a = s.args in
-    let l = c.loop-n in
-    taker_inside a.weights a.sum a.table.now s.requires.weighed long s.requires.sum_in_bounds l.n l.held l.due l.table l.invariant c.first_due-p.result c.loop-n-test.true took in
-    inside
-
-pub overflow_add-n-in-loop-n : goal.overflow_add-n-in-loop-n
-overflow_add-n-in-loop-n c = let s = c in omega (arith, s.requires.weighed.most)
+    found_inside a.weights a.sum l.n l.held l.due c.requires.weighed (search rules) c.loop-n-test.true l.invariant.walk _ c.first_due-p.ensures
 
 pub loop-n-preserved : goal.loop-n-preserved
 loop-n-preserved c =
-    let long : length c.args.weights ≡ 16 = search rules in
-    let took : taker_of c.args.weights c.loop-n.held (c.loop-n.n + 1) ≡ place c.first_due-p.result =
-    let s = c in
-    let a = s.args in
+    let a = c.args in
     let l = c.loop-n in
-    taker_found a.weights a.sum l.n l.held l.due s.requires.weighed long c.loop-n-test.true l.invariant.walk c.first_due-p.result c.first_due-p.ensures in
-    let s = c in
-    let a = s.args in
-    let l = c.loop-n in
-    walked_step a.weights a.sum a.table.now s.requires.weighed long s.requires.sum_in_bounds l.n l.held l.due l.table l.invariant c.first_due-p.result c.loop-n-test.true took
+    let long : length a.weights ≡ 16 = search rules in
+    let took = taker_found a.weights a.sum l.n l.held l.due c.requires.weighed long c.loop-n-test.true l.invariant.walk c.first_due-p.result c.first_due-p.ensures in
+    walked_step a.weights a.sum a.table.now c.requires.weighed long c.requires.sum_in_bounds l.n l.held l.due l.table l.invariant c.first_due-p.result c.loop-n-test.true took
     c.row.result c.due_number.result c.row.ensures c.due_number.ensures
 
 pub shape_of-table : goal.shape_of-table
 shape_of-table c =
-    let long : length c.args.weights ≡ 16 = search rules in
-    let s = c in
-    let a = s.args in
+    let a = c.args in
     let l = c.loop-n in
-    length_walked a.weights a.sum a.table.now s.requires.weighed long s.requires.sum_in_bounds l.n l.held l.due l.table l.invariant
+    length_walked a.weights a.sum a.table.now c.requires.weighed (search rules) c.requires.sum_in_bounds l.n l.held l.due l.table l.invariant
 
 pub returns : goal.returns
 returns c =
-    let long : length c.args.weights ≡ 16 = search rules in
-    let s = c in
-    let a = s.args in
+    let a = c.args in
     let l = c.loop-n in
-    walked_end a.weights a.sum a.table.now s.requires.weighed long s.requires.sum_in_bounds l.n l.held l.due l.table l.invariant c.loop-n-test.false
+    walked_end a.weights a.sum a.table.now c.requires.weighed (search rules) c.requires.sum_in_bounds l.n l.held l.due l.table l.invariant c.loop-n-test.false

@@ -1,8 +1,7 @@
 -- The law of a digit, in the program's numbers: each of them is a part of `top`, below 2 d, or of `left`, below 2^62. Assumes nothing.
-use Prim.Native.Nat.{◌+◌, ◌*◌, ◌/◌, ◌%◌, ◌<◌, ◌≤◌}
+use Prim.Native.Nat.{◌+◌, ◌*◌, ◌%◌, ◌<◌, ◌≤◌}
 use native.Mathlib.Nat.{div-add-mod', mod-lt, mul-le-mul, div-le_self}
 use native.Mathlib.Omega.{arith}
-use borrow.Author.Rules.{rules}
 use Rattle.division.specs.Digits.{base}
 use Rattle.division.proofs.Digit.{low, top, taken, left, top_small, taken_small, left_small, digit as the-digit}
 use Rattle.division.proofs.digits.digit.Goals as goal
@@ -19,41 +18,6 @@ module _ (c : goal.Start) where
 
   takens : taken base c.args.d c.args.rest c.args.r c.args.g < base + base
   takens = taken_small base c.args.d (omega arith) c.requires.some c.args.rest c.args.r c.args.g c.requires.before c.requires.factor c.requires.digit (omega (arith, c.requires.within))
-
-pub overflow_mul-low : goal.overflow_mul-low
-overflow_mul-low c = omega (arith, low_fits c)
-
-pub overflow_mul-top : goal.overflow_mul-top
-unfolding top low
-overflow_mul-top c = omega (arith, tops c, c.requires.within)
-
-pub overflow_add-top : goal.overflow_add-top
-unfolding top low
-overflow_add-top c = omega (arith, tops c, c.requires.within)
-
-pub overflow_add-top-2 : goal.overflow_add-top-2
-unfolding top low
-overflow_add-top-2 c = omega (arith, tops c, c.requires.within)
-
-pub overflow_mul-left : goal.overflow_mul-left
-unfolding left taken top low
-overflow_mul-left c = omega (arith, lefts c)
-
-pub overflow_mul-left-2 : goal.overflow_mul-left-2
-unfolding left taken top low
-overflow_mul-left-2 c = omega (arith, lefts c)
-
-pub overflow_add-left : goal.overflow_add-left
-unfolding left taken top low
-overflow_add-left c = omega (arith, lefts c)
-
-pub overflow_add-left-2 : goal.overflow_add-left-2
-unfolding left taken top low
-overflow_add-left-2 c = omega (arith, lefts c)
-
-pub overflow_add-result : goal.overflow_add-result
-unfolding left taken top low
-overflow_add-result c = let a = c.args in omega (arith, lefts c, takens c, div-le_self (left base a.d a.rest a.r a.g) a.d)
 
 pub returns : goal.returns
 unfolding left taken top low

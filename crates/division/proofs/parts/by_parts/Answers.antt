@@ -3,7 +3,6 @@ use mathlib.Core.Path.{◌≡◌, sym, ◌∙◌, subst}
 use Prim.Native.Nat.{ℕ, ◌-◌, ◌*◌, ◌/◌, ◌%◌, ◌≤◌, ◌<◌}
 use native.Mathlib.Nat.{div-add-mod', mod-lt, div-mul-le_self}
 use native.Mathlib.Omega.{arith}
-use borrow.Author.Rules.{rules}
 use borrow.Author.Tests.{ltb-true, ltb-false}
 use Rattle.division.specs.Division.{most}
 use Rattle.division.specs.Digits.{Parts}
@@ -21,26 +20,6 @@ pub returns-then-is_over : goal.returns-then-is_over
 returns-then-is_over c = let a = c.args in
     over_first a.a a.b a.d c.requires.1
     (ltb-true most (a.a / a.d * a.b) (sym c.is_over.ensures ∙ c.if-is_over.true))
-
-pub overflow_mul-times : goal.overflow_mul-times
-overflow_mul-times c = let s = c in record { fits = omega (arith, s.ranges.a.fits, div-mul-le_self s.args.a s.args.d) }
-
-pub overflow_sub-a : goal.overflow_sub-a
-overflow_sub-a c = div-mul-le_self c.args.a c.args.d
-
-pub below_divisor-part-requires : goal.below_divisor-part-requires
-below_divisor-part-requires c = let s = c in (rest_less s.args.a s.args.d s.requires.1, s.requires.0, s.requires.2)
-
-pub overflow_mul-times-2 : goal.overflow_mul-times-2
-overflow_mul-times-2 c =
-    let times : c.args.a / c.args.d * c.args.b ≤ most = let a = c.args in ltb-false most (a.a / a.d * a.b) (sym c.is_over.ensures ∙ c.if-is_over.false) in
-    record { fits = omega (arith, times) }
-
-pub overflow_add-times : goal.overflow_add-times
-overflow_add-times c =
-    let times : c.args.a / c.args.d * c.args.b ≤ most = let a = c.args in ltb-false most (a.a / a.d * a.b) (sym c.is_over.ensures ∙ c.if-is_over.false) in
-    let left : c.below_divisor-part.result.quotient ≤ c.args.b = let s = c in quotient_most (s.args.a - s.args.a / s.args.d * s.args.d) s.args.b s.args.d (rest_less s.args.a s.args.d s.requires.1) c.below_divisor-part.ensures in
-    record { fits = omega (arith, times, left, c.requires.0) }
 
 pub returns : goal.returns
 returns c = let s = c in

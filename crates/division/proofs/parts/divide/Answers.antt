@@ -1,11 +1,7 @@
 -- Where the product fits one division has its parts; else the parts of a. Assumes nothing.
 use mathlib.Core.Path.{◌≡◌, sym, ◌∙◌}
 use mathlib.Core.Bool.{true}
-use Prim.Native.Nat.{◌≤◌, ◌<◌}
-use native.Mathlib.Omega.{arith}
-use borrow.Author.Rules.{rules}
-use borrow.Author.Tests.{not-true, not-false}
-use Rattle.division.specs.Division.{most, within}
+use Rattle.division.specs.Division.{within}
 use Rattle.division.proofs.Split.{narrow}
 use Rattle.division.proofs.Limits.{limits}
 use Rattle.division.proofs.Divides.{capped_divides, outside, divides_is}

@@ -1,7 +1,6 @@
 -- A figure below ten, else a letter. Assumes nothing.
 use borrow.Author.Tests.{lt-ltb, le-ltb}
 use Rattle.hexadecimal.specs.Hexadecimal.{digit_of}
-use borrow.Author.Rules.{rules}
 use Rattle.hexadecimal.proofs.putting.digit_of.Goals as goal
 
 pub returns-then-n-lt10 : goal.returns-then-n-lt10

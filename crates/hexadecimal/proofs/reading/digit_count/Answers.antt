@@ -1,16 +1,11 @@
 -- The end of the digits is the same from every place that the loop came to: it passed only digits. Assumes nothing.
-use mathlib.Core.Path.{◌≡◌, refl, sym, ◌∙◌}
-use Prim.Native.Nat.{◌-◌}
+use mathlib.Core.Path.{◌∙◌}
 use native.Mathlib.Omega.{arith}
-use lib.ListN.{length, get_or}
+use lib.ListN.{get_or}
 use borrow.Author.Tests.{lt-ltb, le-ltb}
-use Rattle.lines.proofs.Spans.{ends, on, ended, out}
+use Rattle.lines.proofs.Spans.{on, ended, out}
 use Rattle.hexadecimal.specs.Hexadecimal.{worth_of, is_digit}
-use borrow.Author.Rules.{rules}
 use Rattle.hexadecimal.proofs.reading.digit_count.Goals as goal
-
-pub loop-i-init : goal.loop-i-init
-loop-i-init c = refl
 
 pub returns-then-worth_of-gt15 : goal.returns-then-worth_of-gt15
 returns-then-worth_of-gt15 c = let l = c in

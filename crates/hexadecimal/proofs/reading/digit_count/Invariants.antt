@@ -1,12 +1,9 @@
 -- The end of the digits is the same from every place that the loop came to: it passed only digits. Assumes nothing.
-use mathlib.Core.Path.{◌≡◌, refl, sym, ◌∙◌}
+use mathlib.Core.Path.{◌≡◌}
 use Prim.Native.Nat.{◌-◌}
-use native.Mathlib.Omega.{arith}
-use lib.ListN.{length, get_or}
-use borrow.Author.Tests.{lt-ltb, le-ltb}
-use Rattle.lines.proofs.Spans.{ends, on, ended, out}
-use Rattle.hexadecimal.specs.Hexadecimal.{worth_of, is_digit}
-use borrow.Author.Rules.{rules}
+use lib.ListN.{length}
+use Rattle.lines.proofs.Spans.{ends}
+use Rattle.hexadecimal.specs.Hexadecimal.{is_digit}
 use Rattle.hexadecimal.proofs.reading.digit_count.Given as goal
 
 abbrev pub invariant-loop-i : goal.invariant-loop-i

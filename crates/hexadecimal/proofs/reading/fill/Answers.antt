@@ -1,12 +1,8 @@
 -- After each turn one byte more stands in the list. Assumes nothing.
-use Prim.Native.Nat.{◌+◌, ◌-◌, ◌*◌}
+use Prim.Native.Nat.{◌+◌, ◌*◌}
 use native.Mathlib.Omega.{arith}
-use Rattle.hexadecimal.proofs.Pairs.{Filled, none_filled, one_filled, all_filled, digit_inside}
-use borrow.Author.Rules.{rules}
+use Rattle.hexadecimal.proofs.Pairs.{one_filled, all_filled, digit_inside}
 use Rattle.hexadecimal.proofs.reading.fill.Goals as goal
-
-pub loop-i-init : goal.loop-i-init
-loop-i-init c = none_filled _ _ _
 
 pub byte_of-requires : goal.byte_of-requires
 byte_of-requires c = let s = c in
@@ -16,9 +12,6 @@ byte_of-requires c = let s = c in
 pub loop-i-preserved : goal.loop-i-preserved
 loop-i-preserved c = let s = c in
     one_filled _ _ _ _ _ c.loop-i.invariant s.requires.0 s.requires.1 _ c.loop-i-test.true c.byte_of.ensures
-
-pub shape_of-bytes : goal.shape_of-bytes
-shape_of-bytes c = c.loop-i.invariant.sized
 
 pub returns : goal.returns
 returns c = let s = c in all_filled _ _ _ _ _ c.loop-i.invariant s.requires.0 s.requires.1 c.loop-i-test.false

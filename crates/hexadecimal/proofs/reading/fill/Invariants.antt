@@ -1,8 +1,6 @@
 -- After each turn one byte more stands in the list. Assumes nothing.
-use Prim.Native.Nat.{◌+◌, ◌-◌, ◌*◌}
-use native.Mathlib.Omega.{arith}
-use Rattle.hexadecimal.proofs.Pairs.{Filled, none_filled, one_filled, all_filled, digit_inside}
-use borrow.Author.Rules.{rules}
+use Prim.Native.Nat.{◌-◌}
+use Rattle.hexadecimal.proofs.Pairs.{Filled}
 use Rattle.hexadecimal.proofs.reading.fill.Given as goal
 
 abbrev pub invariant-loop-i : goal.invariant-loop-i

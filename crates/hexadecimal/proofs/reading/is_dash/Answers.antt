@@ -1,7 +1,6 @@
 -- One byte, and that a dash. Assumes nothing.
 use borrow.Author.Tests.{eq-eqb, ne_eqb}
 use Rattle.hexadecimal.specs.Hexadecimal.{is_dash}
-use borrow.Author.Rules.{rules}
 use Rattle.hexadecimal.proofs.reading.is_dash.Goals as goal
 
 pub returns-then-word-ne1 : goal.returns-then-word-ne1

@@ -4,7 +4,6 @@ use native.Mathlib.Omega.{arith}
 use lib.ListN.{length}
 use borrow.Author.Tests.{lt-ltb, le-ltb, eq-eqb, ne_eqb}
 use Rattle.hexadecimal.specs.Hexadecimal.{is_pairs}
-use borrow.Author.Rules.{rules}
 use Rattle.hexadecimal.proofs.reading.is_pairs.Goals as goal
 
 pub returns-then-word-eq0 : goal.returns-then-word-eq0

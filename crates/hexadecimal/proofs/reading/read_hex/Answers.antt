@@ -2,9 +2,7 @@
 use mathlib.Core.Path.{sym, ◌∙◌}
 use mathlib.Core.List.{[]}
 use native.Mathlib.Omega.{arith}
-use borrow.Author.Tests.{not-true, not-false}
 use Rattle.hexadecimal.proofs.Decodes.{dash_read, other_word, halves, digits_alone, short_list, all_read}
-use borrow.Author.Rules.{rules}
 use Rattle.hexadecimal.proofs.reading.read_hex.Goals as goal
 
 pub returns-then-is_dash : goal.returns-then-is_dash

@@ -1,7 +1,6 @@
 -- Each test places the byte beside the digits. Assumes nothing.
 use native.Mathlib.Omega.{arith}
 use Rattle.hexadecimal.proofs.Worths.{below_figures, figure, below_capitals, capital, below_smalls, small, above_smalls}
-use borrow.Author.Rules.{rules}
 use Rattle.hexadecimal.proofs.reading.worth_of.Goals as goal
 
 pub returns-then-byte-lt48 : goal.returns-then-byte-lt48

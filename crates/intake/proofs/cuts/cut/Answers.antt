@@ -1,7 +1,6 @@
 -- The line's end is where `line_end` says, and each answer is what the definition finds where the tests came out so. Assumes nothing.
 use mathlib.Core.Path.{◌∙◌}
 use native.Mathlib.Omega.{arith}
-use borrow.Author.Rules.{rules}
 use Rattle.lines.proofs.FirstWord.{line_from}
 use Rattle.intake.proofs.Ways.{with_newline, at_the_end, not_ended}
 use Rattle.intake.proofs.cuts.cut.Goals as goal

@@ -1,6 +1,5 @@
 -- Each answer is what the definition finds where the tests came out so. Assumes nothing.
 use mathlib.Core.Path.{◌∙◌}
-use borrow.Author.Rules.{rules}
 use Rattle.intake.proofs.Ways.{last_skipped, last_line, no_line}
 use Rattle.intake.proofs.cuts.last_of.Goals as goal
 

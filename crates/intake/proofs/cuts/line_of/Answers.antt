@@ -1,5 +1,4 @@
 -- A line is too long by what it has without its carriage return. Assumes nothing.
-use borrow.Author.Rules.{rules}
 use borrow.Author.Tests.{le-ltb, lt-ltb}
 use Rattle.intake.specs.Cuts.{line_of}
 use Rattle.intake.proofs.Stops.{stop_within}

@@ -1,6 +1,5 @@
 -- The cut is the one defined, and its places lie among the bytes that are held. Assumes nothing.
 use mathlib.Core.Path.{◌≡◌, ◌∙◌}
-use borrow.Author.Rules.{rules}
 use Rattle.intake.specs.Cuts.{cut_of}
 use Rattle.intake.proofs.Inside.{standing_inside, cut_inside}
 use Rattle.intake.proofs.cuts.next_line.Goals as goal

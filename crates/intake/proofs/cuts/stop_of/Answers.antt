@@ -1,5 +1,4 @@
 -- A carriage return before the end is dropped, one. Assumes nothing.
-use borrow.Author.Rules.{rules}
 use borrow.Author.Tests.{le-ltb, lt-ltb, eq-eqb, ne_eqb}
 use Rattle.intake.specs.Cuts.{stop_of}
 use Rattle.intake.proofs.cuts.stop_of.Goals as goal

@@ -1,5 +1,4 @@
 -- What is kept is what the definition keeps where the tests came out so. Assumes nothing.
-use borrow.Author.Rules.{rules}
 use borrow.Author.Tests.{le-ltb, lt-ltb}
 use Rattle.intake.specs.Cuts.{unended_of}
 use Rattle.intake.proofs.cuts.unended_of.Goals as goal

@@ -1,9 +1,7 @@
 -- After each turn one byte more stands in front. Assumes nothing.
 use mathlib.Core.Path.{◌≡◌, refl, ◌∙◌, ap}
-use Prim.Native.Nat.{◌≤◌, ◌-◌}
 use native.Mathlib.Omega.{arith}
-use borrow.Author.Rules.{rules}
-use lib.ListN.{length, length-set}
+use lib.ListN.{length-set}
 use Rattle.intake.specs.Keeping.{kept_count}
 use Rattle.intake.proofs.Kept.{moved, none_moved, one_moved, all_moved}
 use Rattle.intake.proofs.keeping.keep.Goals as goal
@@ -12,11 +10,7 @@ pub loop-i-init : goal.loop-i-init
 loop-i-init c = (omega arith, refl, none_moved _ _ 0)
 
 pub loop-i-preserved : goal.loop-i-preserved
-loop-i-preserved c = let l = c in
-    (omega arith, simp length-set l.loop-i.invariant.1, one_moved l.args.text.now l.args.from 0 _ _ l.loop-i.invariant.2)
-
-pub shape_of-text : goal.shape_of-text
-shape_of-text c = c.loop-i.invariant.1
+loop-i-preserved c = (omega arith, simp length-set c.loop-i.invariant.1, one_moved c.args.text.now c.args.from 0 _ _ c.loop-i.invariant.2)
 
 pub returns : goal.returns
 returns c = let args = c.args in

@@ -1,11 +1,8 @@
 -- After each turn one byte more stands in front. Assumes nothing.
-use mathlib.Core.Path.{◌≡◌, refl, ◌∙◌, ap}
+use mathlib.Core.Path.{◌≡◌}
 use Prim.Native.Nat.{◌≤◌, ◌-◌}
-use native.Mathlib.Omega.{arith}
-use borrow.Author.Rules.{rules}
-use lib.ListN.{length, length-set}
-use Rattle.intake.specs.Keeping.{kept_count}
-use Rattle.intake.proofs.Kept.{moved, none_moved, one_moved, all_moved}
+use lib.ListN.{length}
+use Rattle.intake.proofs.Kept.{moved}
 use Rattle.intake.proofs.keeping.keep.Given as goal
 
 abbrev pub invariant-loop-i : goal.invariant-loop-i

@@ -1,19 +1,10 @@
 -- After each turn one byte more is known. Assumes nothing.
-use mathlib.Core.Path.{◌≡◌, refl}
-use Prim.Native.Nat.{◌-◌, ◌≤◌}
 use native.Mathlib.Omega.{arith}
-use borrow.Author.Rules.{rules}
-use lib.ListN.{length, drop}
-use Rattle.intake.specs.Leads.{lead_of}
 use Rattle.intake.proofs.Heads.{next_byte, no_byte}
 use Rattle.intake.proofs.leads.lead_of.Goals as goal
 
-pub loop-i-init : goal.loop-i-init
-loop-i-init c = (omega arith, refl)
-
 pub loop-i-preserved : goal.loop-i-preserved
-loop-i-preserved c = let l = c in
-    (omega arith, next_byte _ _ _ _ _ l.loop-i-test.true l.loop-i.invariant.1 c.lead_after-lead.ensures)
+loop-i-preserved c = (omega arith, next_byte _ _ _ _ _ c.loop-i-test.true c.loop-i.invariant.1 c.lead_after-lead.ensures)
 
 pub returns : goal.returns
 returns c = no_byte _ _ _ _ c.loop-i-test.false c.loop-i.invariant.1

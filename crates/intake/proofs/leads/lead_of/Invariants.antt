@@ -1,11 +1,8 @@
 -- After each turn one byte more is known. Assumes nothing.
-use mathlib.Core.Path.{◌≡◌, refl}
+use mathlib.Core.Path.{◌≡◌}
 use Prim.Native.Nat.{◌-◌, ◌≤◌}
-use native.Mathlib.Omega.{arith}
-use borrow.Author.Rules.{rules}
 use lib.ListN.{length, drop}
 use Rattle.intake.specs.Leads.{lead_of}
-use Rattle.intake.proofs.Heads.{next_byte, no_byte}
 use Rattle.intake.proofs.leads.lead_of.Given as goal
 
 abbrev pub invariant-loop-i : goal.invariant-loop-i

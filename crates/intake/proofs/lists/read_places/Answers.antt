@@ -1,31 +1,20 @@
 -- After each turn one number more is written. Assumes nothing.
-use Prim.Native.Nat.{◌-◌}
-use borrow.Author.Rules.{rules}
-use Rattle.intake.specs.Numbers.{unsigned_at}
-use Rattle.intake.proofs.Listed.{Written, none_written, one_written, no_room, no_more}
+use Rattle.intake.proofs.Listed.{none_written, one_written, no_room, no_more}
 use Rattle.intake.proofs.lists.read_places.Goals as goal
 
 pub loop-i-init : goal.loop-i-init
 loop-i-init c = none_written _ _ _ _
 
-pub shape_of-places-then-places-count : goal.shape_of-places-then-places-count
-shape_of-places-then-places-count c = c.loop-i.invariant.sized
-
 pub returns-then-places-count : goal.returns-then-places-count
-returns-then-places-count c = record {
-  count = (no_room _ _ _ _ _ _ _ c.loop-i.invariant c.if-places-count.true).0;
-  places = (no_room _ _ _ _ _ _ _ c.loop-i.invariant c.if-places-count.true).1;
-}
+returns-then-places-count c =
+    let both = no_room _ _ _ _ _ _ _ c.loop-i.invariant c.if-places-count.true in
+    record { count = both.0; places = both.1 }
 
 pub loop-i-preserved : goal.loop-i-preserved
 loop-i-preserved c = one_written _ _ _ _ _ _ _ c.loop-i.invariant _ c.loop-i-test.true c.if-places-count.false
     c.u16_at.ensures
 
-pub shape_of-places : goal.shape_of-places
-shape_of-places c = c.loop-i.invariant.sized
-
 pub returns : goal.returns
-returns c = record {
-  count = (no_more _ _ _ _ _ _ _ c.loop-i.invariant c.loop-i-test.false).0;
-  places = (no_more _ _ _ _ _ _ _ c.loop-i.invariant c.loop-i-test.false).1;
-}
+returns c =
+    let both = no_more _ _ _ _ _ _ _ c.loop-i.invariant c.loop-i-test.false in
+    record { count = both.0; places = both.1 }

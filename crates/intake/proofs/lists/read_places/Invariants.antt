@@ -1,8 +1,7 @@
 -- After each turn one number more is written. Assumes nothing.
 use Prim.Native.Nat.{◌-◌}
-use borrow.Author.Rules.{rules}
 use Rattle.intake.specs.Numbers.{unsigned_at}
-use Rattle.intake.proofs.Listed.{Written, none_written, one_written, no_room, no_more}
+use Rattle.intake.proofs.Listed.{Written}
 use Rattle.intake.proofs.lists.read_places.Given as goal
 
 abbrev pub invariant-loop-i : goal.invariant-loop-i

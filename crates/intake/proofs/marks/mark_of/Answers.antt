@@ -1,5 +1,4 @@
 -- The tests of the count and of the first three bytes, one after another, as the definition makes them. Assumes nothing.
-use borrow.Author.Rules.{rules}
 use borrow.Author.Tests.{eq-eqb, ne_eqb}
 use Rattle.intake.proofs.Marked.{mark_is}
 use Rattle.intake.proofs.marks.mark_of.Goals as goal

@@ -1,8 +1,6 @@
 -- Its three numbers, one by one. No list has a place past the largest, so that the numbers there are 0. Assumes nothing.
 use Prim.Native.Nat.{◌+◌}
 use native.Mathlib.Omega.{arith}
-use borrow.Author.Rules.{rules}
-use Rattle.whole.proofs.Laws.{read_back}
 use Rattle.intake.proofs.Beyond.{unsigned_beyond, signed_beyond}
 use Rattle.intake.proofs.numbers.amount_at.Goals as goal
 
@@ -13,7 +11,3 @@ returns-then-place c = let a = c.args in
       unsigned_beyond a.signs.now a.values.now (a.place + 1) (omega arith) (omega arith) 255,
       signed_beyond a.signs.now a.values.now (a.place + 2) (omega arith) (omega arith),
     )
-
-pub returns : goal.returns
-returns c = rw
-    (c.u8_at-2.ensures, c.u8_at-3.ensures, read_back c.i64_at.result c.i64_at.type_inv, c.i64_at.ensures)

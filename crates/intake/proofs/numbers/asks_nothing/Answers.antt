@@ -1,7 +1,6 @@
 -- A line that is not empty has a first byte. Assumes nothing.
 use native.Mathlib.Omega.{arith}
 use Rattle.intake.proofs.Heads.{empty_asks, first_asks}
-use borrow.Author.Rules.{rules}
 use Rattle.intake.proofs.numbers.asks_nothing.Goals as goal
 
 pub returns-then-line-eq0 : goal.returns-then-line-eq0

@@ -1,10 +1,7 @@
 -- After each turn one number more is taken. Assumes nothing.
 use Prim.Native.Nat.{◌-◌}
-use native.Mathlib.Omega.{arith}
-use borrow.Author.Rules.{rules}
-use borrow.Author.Tests.{not-true, not-false}
 use lib.ListN.{length}
-use Rattle.intake.proofs.Words.{Taken, none_taken, word_places, one_taken, empty_word, other_word, line_read}
+use Rattle.intake.proofs.Words.{Taken}
 use Rattle.intake.proofs.numbers.read_numbers.Given as goal
 
 abbrev pub invariant-loop-at : goal.invariant-loop-at

@@ -1,5 +1,4 @@
 use mathlib.Core.Path.{refl, sym, ◌∙◌}
-use borrow.Author.Rules.{rules}
 use Rattle.intake.specs.Words.{is_number, sign_in, magnitude_in}
 use Rattle.intake.proofs.numbers.take_number.Goals as goal
 
@@ -9,9 +8,8 @@ returns-in-Nothing c = let told = sym c.read_number.ensures ∙ c.in-Nothing.is 
 
 pub returns-in-Whole : goal.returns-in-Whole
 unfolding is_number sign_in magnitude_in
-returns-in-Whole c = let s = c in
-    let told = sym s.read_number.ensures ∙ s.in-Whole.is in record {
-      value = rw told;
-      signs_after = rw told s.put_sign.ensures;
-      values_after = rw told c.put_magnitude.ensures;
-    }
+returns-in-Whole c = let told = sym c.read_number.ensures ∙ c.in-Whole.is in record {
+  value = rw told;
+  signs_after = rw told c.put_sign.ensures;
+  values_after = rw told c.put_magnitude.ensures;
+}

@@ -3,7 +3,6 @@ use mathlib.Core.Path.{◌∙◌}
 use mathlib.Core.Bool.{true, false}
 use Prim.Native.Nat.{◌-◌, ◌^◌}
 use native.Mathlib.Omega.{arith}
-use borrow.Author.Rules.{rules}
 use Rattle.whole.proofs.Laws.{read_back}
 use Rattle.lines.proofs.Ranges.{signed_held}
 use Rattle.lines.proofs.numbers.as_i64.Goals as goal

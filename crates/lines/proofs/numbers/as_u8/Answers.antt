@@ -1,6 +1,5 @@
 -- What is passed is at most the largest value, which fits. Assumes nothing.
 use native.Mathlib.Omega.{arith}
-use borrow.Author.Rules.{rules}
 use Rattle.lines.proofs.Ranges.{unsigned_within}
 use Rattle.lines.proofs.numbers.as_u8.Goals as goal
 

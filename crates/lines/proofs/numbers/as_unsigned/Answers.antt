@@ -1,7 +1,6 @@
 -- Below 0 it is the largest value, else the lesser of the two. Assumes nothing.
 use mathlib.Core.Path.{sym, ◌∙◌}
 use native.Mathlib.Omega.{arith}
-use borrow.Author.Rules.{rules}
 use Rattle.lines.specs.Lines.{as_unsigned}
 use Rattle.lines.proofs.numbers.as_unsigned.Goals as goal
 

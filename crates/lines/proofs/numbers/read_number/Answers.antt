@@ -1,6 +1,5 @@
 -- A word that is empty or past the line is nothing; else its first byte tells whether a minus is to be passed. Assumes nothing.
 use mathlib.Core.Path.{sym, ◌∙◌}
-use borrow.Author.Rules.{rules}
 use Rattle.lines.proofs.Scans.{empty, outside, with_minus, with_none}
 use Rattle.lines.proofs.numbers.read_number.Goals as goal
 

@@ -1,19 +1,12 @@
 -- The loop's invariant: what the word gives is what the bytes that are left give after the sum so far, which a u64 holds.
 -- Assumes nothing.
 use mathlib.Core.Path.{◌≡◌, sym, ◌∙◌, ap}
-use Prim.Native.Nat.{ℕ, ◌+◌, ◌-◌, ◌≤◌}
+use Prim.Native.Nat.{ℕ, ◌+◌}
 use native.Mathlib.Omega.{arith}
-use borrow.Author.Rules.{rules}
 use lib.Seq.{slice}
-use Rattle.lines.specs.Lines.{whole_of, most}
+use Rattle.lines.specs.Lines.{whole_of}
 use Rattle.lines.proofs.Scans.{scanned, digit, below_digits, above_digits, no_digits, reading, bad, good, done}
 use Rattle.lines.proofs.numbers.whole_in.Goals as goal
-
-pub returns-then-from-to : goal.returns-then-from-to
-returns-then-from-to c = let s = c in sym (no_digits s.args.negative s.args.line.now s.args.from s.args.to s.requires.1 c.if-from-to.true)
-
-pub loop-i-init : goal.loop-i-init
-loop-i-init c = let s = c in (omega arith, omega arith, reading s.args.negative s.args.line.now s.args.from s.args.to s.requires.1 (omega arith))
 
 pub returns-then-byte-lt48 : goal.returns-then-byte-lt48
 returns-then-byte-lt48 c = let l = c in

@@ -1,12 +1,10 @@
 -- The loop's invariant: what the word gives is what the bytes that are left give after the sum so far, which a u64 holds.
 -- Assumes nothing.
-use mathlib.Core.Path.{◌≡◌, sym, ◌∙◌, ap}
-use Prim.Native.Nat.{ℕ, ◌+◌, ◌-◌, ◌≤◌}
-use native.Mathlib.Omega.{arith}
-use borrow.Author.Rules.{rules}
+use mathlib.Core.Path.{◌≡◌}
+use Prim.Native.Nat.{◌-◌, ◌≤◌}
 use lib.Seq.{slice}
 use Rattle.lines.specs.Lines.{whole_of, most}
-use Rattle.lines.proofs.Scans.{scanned, digit, below_digits, above_digits, no_digits, reading, bad, good, done}
+use Rattle.lines.proofs.Scans.{scanned}
 use Rattle.lines.proofs.numbers.whole_in.Given as goal
 
 abbrev pub invariant-loop-i : goal.invariant-loop-i

@@ -1,15 +1,10 @@
 -- The loop's invariant: what is still to be written into the list as it is now makes of it what the whole writing makes of the first list.
 -- Assumes nothing.
-use mathlib.Core.Path.{◌≡◌, refl, sym, ◌∙◌}
-use Prim.Native.Nat.{◌≤◌}
+use mathlib.Core.Path.{refl, sym, ◌∙◌}
 use native.Mathlib.Omega.{arith}
-use borrow.Author.Rules.{rules}
-use lib.ListN.{length, length-set}
-use Rattle.lines.proofs.Fills.{filled, fill_step, fill_end, Filled-put}
+use lib.ListN.{length-set}
+use Rattle.lines.proofs.Fills.{fill_step, fill_end, Filled-put}
 use Rattle.lines.proofs.texts.fill.Goals as goal
-
-pub loop-i-init : goal.loop-i-init
-loop-i-init c = (omega arith, refl, refl)
 
 pub loop-i-preserved : goal.loop-i-preserved
 loop-i-preserved c = let l = c in

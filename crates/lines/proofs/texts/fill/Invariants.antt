@@ -1,11 +1,9 @@
 -- The loop's invariant: what is still to be written into the list as it is now makes of it what the whole writing makes of the first list.
 -- Assumes nothing.
-use mathlib.Core.Path.{◌≡◌, refl, sym, ◌∙◌}
+use mathlib.Core.Path.{◌≡◌}
 use Prim.Native.Nat.{◌≤◌}
-use native.Mathlib.Omega.{arith}
-use borrow.Author.Rules.{rules}
-use lib.ListN.{length, length-set}
-use Rattle.lines.proofs.Fills.{filled, fill_step, fill_end, Filled-put}
+use lib.ListN.{length}
+use Rattle.lines.proofs.Fills.{filled}
 use Rattle.lines.proofs.texts.fill.Given as goal
 
 abbrev pub invariant-loop-i : goal.invariant-loop-i

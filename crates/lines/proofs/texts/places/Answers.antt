@@ -1,10 +1,9 @@
 -- The loop's invariant: reach is ten to the count so far, and no more than ten times the number, or ten. Assumes nothing.
 use mathlib.Core.Path.{◌≡◌, ◌∙◌, ap}
-use Prim.Native.Nat.{ℕ, ◌+◌, ◌-◌, ◌*◌, ◌^◌, ◌≤◌, ◌<◌, max}
+use Prim.Native.Nat.{ℕ, ◌+◌, ◌*◌, ◌^◌, ◌≤◌}
 use native.Mathlib.Nat.{pow-suc, pow-le-pow_right}
 use native.Mathlib.Numerals.{add-one}
 use native.Mathlib.Omega.{arith}
-use borrow.Author.Rules.{rules}
 use Rattle.lines.proofs.Fills.{counted}
 use Rattle.lines.proofs.texts.places.Goals as goal
 
@@ -17,11 +16,6 @@ pub overflow_mul-reach : goal.overflow_mul-reach
 overflow_mul-reach c = let l = c in
     let small : 10 ^ l.loop-reach.count ≤ 10 ^ 18 = pow-le-pow_right {n = 10} (omega arith) {j = 18} (omega arith) in
     omega arith
-
-pub loop-reach-preserved : goal.loop-reach-preserved
-loop-reach-preserved c = let l = c in
-    let e : l.loop-reach.reach * 10 ≡ 10 ^ (l.loop-reach.count + 1) = rw (add-one, pow-suc 10 l.loop-reach.count) (ap (λ (x : ℕ). x * 10) l.loop-reach.invariant.2) in
-    (omega arith, omega arith, e, omega arith)
 
 pub returns : goal.returns
 returns c = let l = c in

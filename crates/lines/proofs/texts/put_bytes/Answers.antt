@@ -1,10 +1,9 @@
 -- The loop's invariant: as many bytes as were passed stand at the place, and the rest is as it was. Assumes nothing.
 use mathlib.Core.Path.{◌≡◌, refl, sym, ◌∙◌, ap}
 use mathlib.Core.List.{List}
-use Prim.Native.Nat.{ℕ, ◌+◌, ◌-◌, ◌≤◌}
+use Prim.Native.Nat.{ℕ, ◌+◌, ◌≤◌}
 use native.Mathlib.Numerals.{add-one}
 use native.Mathlib.Omega.{arith}
-use borrow.Author.Rules.{rules}
 use lib.ListN.{length, get_or, set, length-set}
 use lib.Seq.{paste, paste-zero, paste-suc}
 use Rattle.lines.proofs.Fills.{no_room, behind, copied}
@@ -17,9 +16,6 @@ returns-then-out-at c = let s = c in
 pub returns-then-out-at-2 : goal.returns-then-out-at-2
 returns-then-out-at-2 c = let s = c in
     let all = no_room s.args.out.now s.args.at s.args.bytes.now (omega arith) in record { out_after = all.0; value = all.1 }
-
-pub loop-i-init : goal.loop-i-init
-loop-i-init c = let s = c in (omega arith, refl, paste-zero s.args.out.now s.args.at s.args.bytes.now)
 
 pub loop-i-preserved : goal.loop-i-preserved
 loop-i-preserved c = let l = c in

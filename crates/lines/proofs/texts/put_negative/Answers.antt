@@ -3,7 +3,6 @@ use mathlib.Core.Path.{◌≡◌, sym, ◌∙◌}
 use mathlib.Core.List.{◌∷◌}
 use Prim.Native.Nat.{suc, ◌+◌, ◌≤◌}
 use native.Mathlib.Omega.{arith}
-use borrow.Author.Rules.{rules}
 use lib.ListN.{length, length-set}
 use Rattle.lines.specs.Texts.{decimal}
 use Rattle.lines.proofs.Fills.{no_room, behind, put_first}
@@ -16,12 +15,6 @@ returns-then-out-at c = let s = c in
 pub returns-then-out-at-2 : goal.returns-then-out-at-2
 returns-then-out-at-2 c = let s = c in
     let all = no_room s.args.out.now s.args.at (45 ∷ decimal 20 s.args.m) (omega (arith, c.places-count.ensures)) in record { out_after = all.0; value = all.1 }
-
-pub fill-requires : goal.fill-requires
-fill-requires c = (c.places-count.ensures, simp length-set (omega arith))
-
-pub shape_of-out : goal.shape_of-out
-shape_of-out c = let s = c in omega (arith, length-set s.args.out.now s.args.at 45)
 
 pub returns : goal.returns
 returns c = let s = c in

@@ -1,6 +1,5 @@
 -- Below 0 the text is that with a minus, else the digits alone. Assumes nothing.
 use mathlib.Core.Path.{sym, ◌∙◌}
-use borrow.Author.Rules.{rules}
 use Rattle.lines.specs.Texts.{text_of}
 use Rattle.lines.proofs.texts.put_number.Goals as goal
 

@@ -1,16 +1,10 @@
 -- The word's end is the same from every place that the loop came to: it passed no space. Assumes nothing.
-use mathlib.Core.Path.{◌≡◌, refl, sym, ◌∙◌, ap}
+use mathlib.Core.Path.{refl, sym, ◌∙◌, ap}
 use mathlib.Core.Bool.{not}
-use Prim.Native.Nat.{◌-◌}
-use borrow.Author.Rules.{rules}
 use borrow.Author.Tests.{eq-eqb, ne_eqb}
-use lib.ListN.{length}
 use Rattle.lines.specs.Lines.{is_space}
-use Rattle.lines.proofs.Spans.{ends, on, ended, out}
+use Rattle.lines.proofs.Spans.{on, ended, out}
 use Rattle.lines.proofs.words.unspaced_end.Goals as goal
-
-pub loop-i-init : goal.loop-i-init
-loop-i-init c = refl
 
 pub returns-then-line-i-eq32 : goal.returns-then-line-i-eq32
 returns-then-line-i-eq32 c = sym

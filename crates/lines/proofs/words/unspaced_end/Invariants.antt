@@ -1,12 +1,10 @@
 -- The word's end is the same from every place that the loop came to: it passed no space. Assumes nothing.
-use mathlib.Core.Path.{◌≡◌, refl, sym, ◌∙◌, ap}
+use mathlib.Core.Path.{◌≡◌}
 use mathlib.Core.Bool.{not}
 use Prim.Native.Nat.{◌-◌}
-use borrow.Author.Rules.{rules}
-use borrow.Author.Tests.{eq-eqb, ne_eqb}
 use lib.ListN.{length}
 use Rattle.lines.specs.Lines.{is_space}
-use Rattle.lines.proofs.Spans.{ends, on, ended, out}
+use Rattle.lines.proofs.Spans.{ends}
 use Rattle.lines.proofs.words.unspaced_end.Given as goal
 
 abbrev pub invariant-loop-i : goal.invariant-loop-i

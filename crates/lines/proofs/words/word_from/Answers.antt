@@ -1,5 +1,4 @@
 -- The word starts where the spaces end, and ends where the bytes that are no spaces do. Assumes nothing.
-use borrow.Author.Rules.{rules}
 use Rattle.lines.specs.Lines.{word_from}
 use Rattle.lines.proofs.words.word_from.Goals as goal
 

@@ -2,15 +2,13 @@
 -- Assumes nothing.
 use mathlib.Core.Path.{◌≡◌, refl, sym, ◌∙◌, ap}
 use mathlib.Core.Bool.{Bool, true, false}
-use mathlib.Core.List.{List, [], ◌∷◌}
+use mathlib.Core.List.{[], ◌∷◌}
 use Prim.Native.Nat.{ℕ, ◌+◌, ◌-◌, ◌<◌, ◌≤◌}
 use native.Mathlib.Omega.{arith}
-use borrow.Author.Rules.{rules}
 use borrow.Author.Tests.{lt-ltb, le-ltb, eq-eqb, ne_eqb, ltb-true, ltb-false, leb-true, leb-false}
 use lib.Dec.{ltb, leb}
 use lib.ListN.{get_or, get_or-eq_default}
-use mir.Syntax.{w8}
-use mir.Val.{Fits, bool_byte}
+use mir.Val.{bool_byte}
 use Rattle.whole.proofs.Keys.{past_keys}
 use Rattle.rounding.specs.declared.Rest.{Rest}
 use Rattle.rounding.specs.declared.Rest.TheVariants.{Exact, Below, Half, Above}
@@ -49,20 +47,6 @@ by_number r d h = by_tests r d h (ltb 0 r) (leb (d - r) r) (ltb (d - r) r) refl 
 few : (b : Bool) → bool_byte b ≤ 1
 few true = omega arith
 few false = omega arith
-
-pub overflow_add-tests : goal.overflow_add-tests
-overflow_add-tests c = record { fits = omega (arith, few (ltb 0 c.args.rest), few (leb (c.args.d - c.args.rest) c.args.rest)) }
-
-pub overflow_add-tests-2 : goal.overflow_add-tests-2
-overflow_add-tests-2 c = record {
-  fits =
-      omega (
-        arith,
-        few (ltb 0 c.args.rest),
-        few (leb (c.args.d - c.args.rest) c.args.rest),
-        few (ltb (c.args.d - c.args.rest) c.args.rest),
-      );
-}
 
 pub returns-in-0 : goal.returns-in-0
 returns-in-0 c = sym (ap named c.in-0.is) ∙ by_number c.args.rest c.args.d c.requires

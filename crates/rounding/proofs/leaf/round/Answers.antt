@@ -5,7 +5,6 @@ use mathlib.Core.Bool.{Bool, true, false}
 use Prim.Native.Nat.{ℕ, ◌+◌, ◌-◌, ◌*◌, ◌<◌, ◌/◌, ◌%◌, ◌^◌}
 use native.Mathlib.Nat.{mod-lt, div-le_self, div-mul-le_self, div-add-mod'}
 use native.Mathlib.Omega.{arith}
-use borrow.Author.Rules.{rules}
 use borrow.Author.Tests.{eq-eqb}
 use mir.Syntax.{w64}
 use mir.Val.{Fits, bool_byte}
@@ -26,15 +25,6 @@ raised_fits false n d fit some rest = record { fits = omega (arith, div-le_self 
 pub returns-then-d-eq0 : goal.returns-then-d-eq0
 unfolding rounded_magnitude
 returns-then-d-eq0 c = simp (eq-eqb _ _ c.if-d-eq0.true)
-
-pub overflow_mul-quotient : goal.overflow_mul-quotient
-overflow_mul-quotient c = let a = c.args in record { fits = omega (arith, c.ranges.n.fits, div-mul-le_self a.n a.d) }
-
-pub overflow_sub-n : goal.overflow_sub-n
-overflow_sub-n c = div-mul-le_self c.args.n c.args.d
-
-pub class-rest-requires : goal.class-rest-requires
-class-rest-requires c = let a = c.args in rw (rest_is a.n a.d) (mod-lt a.n (omega (arith, c.if-d-eq0.false)))
 
 pub overflow_add-result : goal.overflow_add-result
 unfolding is_odd

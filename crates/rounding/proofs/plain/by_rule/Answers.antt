@@ -1,11 +1,9 @@
 -- A refused check is the row that it names, and what passed is the rounded quotient. Assumes nothing.
 use mathlib.Core.Path.{◌≡◌, sym, ◌∙◌, ap}
 use Prim.Native.Nat.{ℕ, ◌*◌}
-use borrow.Author.Rules.{rules}
-use lib.IntN.{ℤ}
-use Rattle.refusal.specs.Rows.{Said, gives, check_of, first_row}
+use Rattle.refusal.specs.Rows.{gives, check_of, first_row}
 use Rattle.refusal.proofs.Check.{passed, refused}
-use Rattle.whole.specs.Whole.{magnitude_of, signed_of, held_signed}
+use Rattle.whole.specs.Whole.{signed_of, held_signed}
 use Rattle.whole.proofs.Laws.{magnitude_signed, read_back}
 use Rattle.rounding.specs.Leaf.{rounded_magnitude}
 use Rattle.rounding.specs.Found.{found_quotient}

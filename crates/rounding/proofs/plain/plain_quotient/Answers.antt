@@ -1,14 +1,12 @@
 -- A refused choice of the rule is row 1; behind it stand the other rows and the rounded quotient of the product. Assumes nothing.
-use mathlib.Core.Path.{◌≡◌, sym, ◌∙◌, ap, ap₂}
+use mathlib.Core.Path.{sym, ◌∙◌, ap, ap₂}
 use mathlib.Core.Bool.{Bool}
 use Prim.Native.Nat.{ℕ, ◌*◌}
-use borrow.Author.Rules.{rules}
 use lib.IntN.{ℤ, ◌*ℤ◌}
-use Rattle.refusal.specs.Rows.{Said, gives, first_row}
+use Rattle.refusal.specs.Rows.{Said, gives}
 use Rattle.whole.specs.Whole.{negative, magnitude_of, signed_of}
 use Rattle.whole.proofs.Laws.{read_back}
 use Rattle.rounding.specs.declared.Rule.{Rule}
-use Rattle.rounding.specs.Modes.{rule_of}
 use Rattle.rounding.specs.Leaf.{rounded, rounded_magnitude}
 use Rattle.rounding.specs.Plain.{plain_rows, behind_mode, quotient_of, plain_said}
 use Rattle.rounding.proofs.Chosen.{mode_refused, mode_chosen, rule_chosen}

@@ -1,6 +1,5 @@
 -- Each arm of the test is its arm of the definition. Assumes nothing.
 use mathlib.Core.Path.{sym, ◌∙◌}
-use borrow.Author.Rules.{rules}
 use borrow.Author.Tests.{eq-eqb, ne_eqb}
 use Rattle.rounding.specs.Found.{found_quotient}
 use Rattle.rounding.proofs.plain.quotient.Goals as goal

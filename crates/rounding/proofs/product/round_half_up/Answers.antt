@@ -2,7 +2,6 @@
 use mathlib.Core.Path.{sym, ◌∙◌}
 use mathlib.Core.Bool.{false}
 use native.Mathlib.Omega.{arith}
-use borrow.Author.Rules.{rules}
 use Rattle.rounding.specs.declared.Rule.TheVariants.{HalfUp}
 use Rattle.rounding.proofs.Short.{Within, short_within, short_is}
 use Rattle.rounding.proofs.product.round_half_up.Goals as goal

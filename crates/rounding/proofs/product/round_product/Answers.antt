@@ -1,7 +1,6 @@
 -- A short product is one number, whose quotient is the leaf's; any other is divided by parts. Assumes nothing.
 use mathlib.Core.Path.{sym, ◌∙◌}
 use native.Mathlib.Omega.{arith}
-use borrow.Author.Rules.{rules}
 use Rattle.rounding.proofs.Short.{Within, short_within, short_is}
 use Rattle.rounding.proofs.product.round_product.Goals as goal
 

@@ -1,10 +1,9 @@
 -- The quotient is over 10^18, or within it, and the rule adds at most one. Assumes nothing.
-use mathlib.Core.Path.{◌≡◌, refl, sym, ◌∙◌, ap, ap₂}
+use mathlib.Core.Path.{◌≡◌, ◌∙◌, ap, ap₂}
 use mathlib.Core.Bool.{Bool, true, false}
-use Prim.Native.Nat.{ℕ, ◌+◌, ◌*◌, ◌/◌, ◌%◌, ◌<◌, ◌≤◌}
+use Prim.Native.Nat.{ℕ, ◌+◌, ◌*◌, ◌/◌, ◌%◌, ◌≤◌}
 use native.Mathlib.Nat.{mod-lt}
 use native.Mathlib.Omega.{arith}
-use borrow.Author.Rules.{rules}
 use mir.Syntax.{w64}
 use mir.Val.{Fits, bool_byte}
 use Rattle.division.specs.declared.Division.{Division}
@@ -38,9 +37,6 @@ class-rest-requires c =
     let known : Known c.args.a c.args.b c.args.d c.divide-division.result.quotient c.divide-division.result.rest = let a = c.args in let w = division_within a.rule a.negative a.a a.b a.d (omega (arith, c.if-quotient-gt-MOST.false, quotient_is)) in record { limited = w.0; quotient = quotient_is ∙ w.1; rest = ap (λ (x : Division). x.rest) c.divide-division.ensures ∙ w.2 } in
     let a = c.args in
     omega (arith, known.rest, mod-lt (a.a * a.b) (limits a.a a.b a.d known.limited).2)
-
-pub overflow_add-result-2 : goal.overflow_add-result-2
-overflow_add-result-2 c = fits c.rises.result c.divide-division.result.quotient c.if-quotient-gt-MOST.false
 
 pub returns : goal.returns
 unfolding is_odd

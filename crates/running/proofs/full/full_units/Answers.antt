@@ -1,10 +1,9 @@
 -- Each place's share, rounded down, is stored in its turn. Assumes nothing.
 use mathlib.Core.Path.{◌≡◌, refl, ap, ◌∙◌}
-use Prim.Native.Nat.{ℕ, ◌-◌, ◌*◌, ◌/◌, ◌≤◌}
+use Prim.Native.Nat.{ℕ, ◌*◌, ◌/◌, ◌≤◌}
 use native.Mathlib.Nat.{mul-le-mul}
 use native.Mathlib.Omega.{arith}
-use borrow.Author.Rules.{rules}
-use lib.ListN.{length, get_or}
+use lib.ListN.{get_or}
 use Rattle.whole.specs.Lists.{filled}
 use Rattle.whole.proofs.Lists.{fill_none}
 use Rattle.running.specs.Limits.{zeros}
@@ -19,9 +18,6 @@ overflow_mul-full c = let a = c.args in
     let pre = c.requires in
     let w : get_or a.weights c.loop-i.i 0 ≤ 10000 = omega (arith, place_within a.weights c.loop-i.i, pre.0, pre.2) in
     omega (arith, mul-le-mul pre.3 w)
-
-pub nonzero_div-full : goal.nonzero_div-full
-nonzero_div-full c = c.requires.1
 
 pub loop-i-preserved : goal.loop-i-preserved
 loop-i-preserved c = let a = c.args in

@@ -1,14 +1,9 @@
 -- Each place's share, rounded down, is stored in its turn. Assumes nothing.
-use mathlib.Core.Path.{◌≡◌, refl, ap, ◌∙◌}
-use Prim.Native.Nat.{ℕ, ◌-◌, ◌*◌, ◌/◌, ◌≤◌}
-use native.Mathlib.Nat.{mul-le-mul}
-use native.Mathlib.Omega.{arith}
-use borrow.Author.Rules.{rules}
-use lib.ListN.{length, get_or}
+use mathlib.Core.Path.{◌≡◌}
+use Prim.Native.Nat.{◌-◌, ◌*◌, ◌/◌, ◌≤◌}
+use lib.ListN.{get_or}
 use Rattle.whole.specs.Lists.{filled}
-use Rattle.whole.proofs.Lists.{fill_none}
 use Rattle.running.specs.Limits.{zeros}
-use Rattle.running.proofs.Places.{fill_next, filled_place, place_within}
 use Rattle.running.proofs.full.full_units.Given as goal
 
 abbrev pub invariant-loop-i : goal.invariant-loop-i

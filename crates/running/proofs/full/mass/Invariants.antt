@@ -1,13 +1,8 @@
 -- The sum over the places passed, at most 100,000,000 for each. Assumes nothing.
-use mathlib.Core.Path.{◌≡◌, refl, ap, ◌∙◌}
-use mathlib.Core.Logic.{⊎_elim}
-use Prim.Native.Nat.{ℕ, ◌+◌, ◌-◌, ◌*◌, ◌≤◌}
-use native.Mathlib.Omega.{arith}
-use borrow.Author.Rules.{rules}
+use mathlib.Core.Path.{◌≡◌}
+use Prim.Native.Nat.{◌-◌, ◌*◌, ◌≤◌}
 use lib.ListN.{get_or}
 use Rattle.units.specs.Window.{places_sum}
-use Rattle.units.proofs.Loops.{sum_start, sum_step}
-use Rattle.running.proofs.Fitting.{product}
 use Rattle.running.proofs.full.mass.Given as goal
 
 abbrev pub invariant-loop-i : goal.invariant-loop-i

@@ -1,6 +1,6 @@
 -- Where the test passed the mass is below W; at 0 there is none. Assumes nothing.
 use mathlib.Core.Path.{◌≡◌}
-use Prim.Native.Nat.{◌-◌, ◌≤◌}
+use Prim.Native.Nat.{◌-◌}
 use native.Mathlib.Omega.{arith}
 use borrow.Author.Rules.{rules}
 use lib.ListN.{length}
@@ -8,39 +8,22 @@ use Rattle.units.proofs.Start.{mass_none}
 use Rattle.running.proofs.Fitting.{small, mass_is}
 use Rattle.running.proofs.full.start.Goals as goal
 
-pub loop-back-init : goal.loop-back-init
-loop-back-init c = omega arith
-
-pub overflow_sub-u : goal.overflow_sub-u
-overflow_sub-u c = omega arith
-
 pub mass-requires : goal.mass-requires
 mass-requires c =
     let long : length c.args.weights ≡ 16 = search rules in
-    let s = c in
-    let a = s.args in
-    small a.weights a.sum a.n a.full s.requires long (a.n - c.loop-back.back) (omega (arith, s.requires.part))
+    let a = c.args in
+    small a.weights a.sum a.n a.full c.requires long (a.n - c.loop-back.back) (omega (arith, c.requires.part))
 
 pub returns-then-mass-sum : goal.returns-then-mass-sum
 returns-then-mass-sum c =
     let long : length c.args.weights ≡ 16 = search rules in
-    let s = c in
-    let a = s.args in
+    let a = c.args in
     let u = a.n - c.loop-back.back in
     record {
       before = omega arith;
-      light = omega (arith, mass_is a.weights a.sum a.n a.full s.requires long u, c.mass.ensures, c.if-mass-sum.true, s.requires.same);
+      light = omega (arith, mass_is a.weights a.sum a.n a.full c.requires long u, c.mass.ensures, c.if-mass-sum.true, c.requires.same);
     }
 
-pub overflow_mul-back : goal.overflow_mul-back
-overflow_mul-back c = let s = c in omega (arith, s.requires.part)
-
-pub loop-back-smaller : goal.loop-back-smaller
-loop-back-smaller c = omega arith
-
-pub loop-back-preserved : goal.loop-back-preserved
-loop-back-preserved c = omega arith
-
 pub returns : goal.returns
-returns c = let s = c in
-    record { before = omega arith; light = omega (arith, mass_none s.args.weights s.args.n, s.requires.same, s.requires.some) }
+returns c =
+    record { before = omega arith; light = omega (arith, mass_none c.args.weights c.args.n, c.requires.same, c.requires.some) }

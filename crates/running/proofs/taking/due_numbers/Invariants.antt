@@ -1,14 +1,10 @@
 -- Each place's due number is stored in its turn. Assumes nothing.
-use mathlib.Core.Path.{◌≡◌, refl, ap, ◌∙◌}
-use Prim.Native.Nat.{ℕ, ◌-◌, ◌≤◌}
-use native.Mathlib.Omega.{arith}
-use borrow.Author.Rules.{rules}
+use mathlib.Core.Path.{◌≡◌}
+use Prim.Native.Nat.{◌-◌, ◌≤◌}
 use lib.ListN.{get_or}
 use Rattle.whole.specs.Lists.{filled}
-use Rattle.whole.proofs.Lists.{fill_none}
 use Rattle.running.specs.Limits.{zeros}
-use Rattle.running.specs.Taking.{due_by, dues_by}
-use Rattle.running.proofs.Places.{fill_next}
+use Rattle.running.specs.Taking.{due_by}
 use Rattle.running.proofs.taking.due_numbers.Given as goal
 
 abbrev pub invariant-loop-i : goal.invariant-loop-i

@@ -1,17 +1,9 @@
 -- At each place the whole cycles, the full units of what is left, and one more where the place is ahead. Assumes nothing.
-use mathlib.Core.Path.{◌≡◌, refl, ap, ◌∙◌}
-use Prim.Native.Nat.{ℕ, ◌+◌, ◌-◌, ◌*◌, ◌/◌, ◌%◌, ◌≤◌}
-use native.Mathlib.Nat.{mod-lt}
-use native.Mathlib.Omega.{arith}
-use borrow.Author.Rules.{rules}
-use lib.ListN.{length, get_or}
+use mathlib.Core.Path.{◌≡◌}
+use Prim.Native.Nat.{◌+◌, ◌-◌, ◌*◌, ◌≤◌}
+use lib.ListN.{get_or}
 use Rattle.whole.specs.Lists.{filled}
-use Rattle.whole.proofs.Lists.{fill_none}
-use Rattle.units.specs.Rule.{totals}
-use Rattle.units.proofs.Added.{length_totals}
 use Rattle.running.specs.Limits.{zeros}
-use Rattle.running.proofs.Places.{fill_next, filled_whole}
-use Rattle.running.proofs.Cycles.{total_within, with_cycles}
 use Rattle.running.proofs.totals.by_shares.Given as goal
 
 abbrev pub invariant-loop-i : goal.invariant-loop-i

@@ -1,14 +1,9 @@
 -- At each place the difference takes the place of the greater total. Assumes nothing.
-use mathlib.Core.Path.{◌≡◌, sym, ap, ◌∙◌}
+use mathlib.Core.Path.{◌≡◌}
 use mathlib.Core.List.{List}
 use Prim.Native.Nat.{ℕ, ◌-◌, ◌≤◌}
-use native.Mathlib.Omega.{arith}
-use borrow.Author.Rules.{rules}
-use lib.ListN.{length, get_or}
-use Rattle.running.specs.Totals.{less_of}
+use lib.ListN.{get_or}
 use Rattle.whole.specs.Lists.{filled}
-use Rattle.whole.proofs.Lists.{fill_none, filled_behind}
-use Rattle.running.proofs.Places.{fill_next, filled_whole, length_less, less_place}
 use Rattle.running.proofs.totals.less.Given as goal
 
 -- what the loop stores at a place

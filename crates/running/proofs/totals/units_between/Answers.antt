@@ -1,11 +1,9 @@
 -- Within the limits the totals by the shares, the one less the other; else the weights break their rule, or there are none between.
 -- Assumes nothing.
 use mathlib.Core.Path.{◌≡◌, sym, ap₂, ◌∙◌}
-use Prim.Native.Nat.{◌≤◌}
 use native.Mathlib.Omega.{arith}
 use borrow.Author.Rules.{rules}
 use lib.ListN.{length}
-use Rattle.whole.specs.Sums.{sum_of}
 use Rattle.units.proofs.Added.{never_fall}
 use Rattle.running.specs.Totals.{less_of}
 use Rattle.running.proofs.Total.{breaks_none, breaks_many, between_are, between_broken, between_exchanged}
@@ -16,25 +14,24 @@ returns-then-sum-lt1 c = let a = c.args in
     between_broken a.weights (breaks_none a.weights (omega (arith, c.sum_from-sum.ensures))) a.low a.high
 
 pub returns-then-sum-gt-WEIGHT_SUM : goal.returns-then-sum-gt-WEIGHT_SUM
-returns-then-sum-gt-WEIGHT_SUM c = let s = c in
-    let a = s.args in
-    between_broken a.weights (breaks_many a.weights (omega (arith, s.sum_from-sum.ensures)) (omega (arith, s.sum_from-sum.ensures))) a.low a.high
+returns-then-sum-gt-WEIGHT_SUM c =
+    let a = c.args in
+    between_broken a.weights (breaks_many a.weights (omega (arith, c.sum_from-sum.ensures)) (omega (arith, c.sum_from-sum.ensures))) a.low a.high
 
 pub returns-then-high-low : goal.returns-then-high-low
-returns-then-high-low c = let s = c in
-    let a = s.args in
+returns-then-high-low c =
+    let a = c.args in
     let long : length a.weights ≡ 16 = search rules in
-    between_exchanged a.weights long (omega (arith, s.sum_from-sum.ensures)) (omega (arith, s.sum_from-sum.ensures)) a.low a.high c.if-high-low.true
+    between_exchanged a.weights long (omega (arith, c.sum_from-sum.ensures)) (omega (arith, c.sum_from-sum.ensures)) a.low a.high c.if-high-low.true
 
 pub less-requires : goal.less-requires
 less-requires c = λ i.
-    let s = c in
-    let a = s.args in
+    let a = c.args in
     rw (c.by_shares-lesser.ensures, c.by_shares-greater.ensures)
-    (never_fall a.weights (omega (arith, s.sum_from-sum.ensures)) a.low a.high (omega arith) i)
+    (never_fall a.weights (omega (arith, c.sum_from-sum.ensures)) a.low a.high (omega arith) i)
 
 pub returns : goal.returns
-returns c = let s = c in
-    let a = s.args in
+returns c =
+    let a = c.args in
     c.less.ensures ∙ ap₂ less_of c.by_shares-greater.ensures c.by_shares-lesser.ensures
-    ∙ sym (between_are a.weights (omega (arith, s.sum_from-sum.ensures)) (omega (arith, s.sum_from-sum.ensures)) a.low a.high)
+    ∙ sym (between_are a.weights (omega (arith, c.sum_from-sum.ensures)) (omega (arith, c.sum_from-sum.ensures)) a.low a.high)

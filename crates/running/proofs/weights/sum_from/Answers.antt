@@ -1,7 +1,6 @@
 -- From the last place down, the sum is that of the places passed: sixteen weights of 32 bits fit. Assumes nothing.
-use mathlib.Core.Path.{◌≡◌, refl, sym, ap, ◌∙◌}
-use Prim.Native.Nat.{ℕ, ◌+◌, ◌-◌, ◌*◌, ◌^◌, ◌≤◌, ◌<◌}
-use native.Mathlib.Decide.{dec_lt}
+use mathlib.Core.Path.{◌≡◌, refl, sym}
+use Prim.Native.Nat.{ℕ, ◌+◌, ◌-◌, ◌^◌, ◌<◌}
 use native.Mathlib.Omega.{arith}
 use borrow.Author.Rules.{rules}
 use lib.ListN.{length, drop, get_or}
@@ -17,15 +16,6 @@ loop-i-init c =
     let h = long in
     (omega arith, sym (sum_past c.args.weights 16 (omega arith)), omega arith, λ b. refl)
 
-pub overflow_sub-i : goal.overflow_sub-i
-overflow_sub-i c = omega arith
-
-pub offset_bounds-weights-i : goal.offset_bounds-weights-i
-offset_bounds-weights-i c = omega arith
-
-pub bounds-weights-i : goal.bounds-weights-i
-bounds-weights-i c = omega arith
-
 pub overflow_cast-sum : goal.overflow_cast-sum
 overflow_cast-sum c =
     let small : (i : ℕ) → get_or c.args.weights i 0 < 2 ^ 32 = λ i. let h : Fits w32 (get_or c.args.weights i 0) = search rules in h.fits in
@@ -35,9 +25,6 @@ pub overflow_add-sum : goal.overflow_add-sum
 overflow_add-sum c =
     let small : (i : ℕ) → get_or c.args.weights i 0 < 2 ^ 32 = λ i. let h : Fits w32 (get_or c.args.weights i 0) = search rules in h.fits in
     omega (arith, small (c.loop-i.i - 1))
-
-pub loop-i-smaller : goal.loop-i-smaller
-loop-i-smaller c = omega arith
 
 pub loop-i-preserved : goal.loop-i-preserved
 loop-i-preserved c =
@@ -49,17 +36,3 @@ loop-i-preserved c =
     let i = c.loop-i.i in
     let earlier : sum_of (drop i ws) + get_or ws (i - 1) 0 ≡ sum_of (drop (i - 1) ws) = sum_earlier ws i (omega arith) (omega arith) in
     (omega arith, omega arith, omega arith, λ b. omega arith)
-
-pub returns : goal.returns
-returns c =
-    let long : length c.args.weights ≡ 16 = search rules in
-    go (dec_lt c.loop-i.i c.args.from)
-  where
-    go : Dec (c.loop-i.i < c.args.from) → c.loop-i.sum ≡ sum_of (drop c.args.from c.args.weights)
-    go (yes b) =
-        let h = long in
-        let e = c.loop-i.invariant.3 b in
-        omega (arith, sum_past c.args.weights c.loop-i.i (omega arith), sum_past c.args.weights c.args.from (omega arith))
-    go (no b) =
-        let e : c.loop-i.i ≡ c.args.from = omega arith in
-        c.loop-i.invariant.1 ∙ ap (λ (k : ℕ). sum_of (drop k c.args.weights)) e

@@ -1,14 +1,8 @@
 -- From the last place down, the sum is that of the places passed: sixteen weights of 32 bits fit. Assumes nothing.
-use mathlib.Core.Path.{◌≡◌, refl, sym, ap, ◌∙◌}
-use Prim.Native.Nat.{ℕ, ◌+◌, ◌-◌, ◌*◌, ◌^◌, ◌≤◌, ◌<◌}
-use native.Mathlib.Decide.{dec_lt}
-use native.Mathlib.Omega.{arith}
-use borrow.Author.Rules.{rules}
-use lib.ListN.{length, drop, get_or}
-use mir.Syntax.{w32}
-use mir.Val.{Fits}
+use mathlib.Core.Path.{◌≡◌}
+use Prim.Native.Nat.{◌+◌, ◌*◌, ◌^◌, ◌≤◌, ◌<◌}
+use lib.ListN.{drop}
 use Rattle.whole.specs.Sums.{sum_of}
-use Rattle.running.proofs.Places.{sum_earlier, sum_past}
 use Rattle.running.proofs.weights.sum_from.Given as goal
 
 abbrev pub invariant-loop-i : goal.invariant-loop-i

@@ -1,6 +1,5 @@
 -- The code's currency is a number. Assumes nothing.
 use Rattle.spoken.specs.Hearing.{code_step}
-use borrow.Author.Rules.{rules}
 use Rattle.spoken.proofs.hearing.code_step.Goals as goal
 
 pub returns : goal.returns

@@ -1,6 +1,5 @@
 -- A number counts, and another word is wrong. Assumes nothing.
 use Rattle.spoken.specs.Hearing.{number_step}
-use borrow.Author.Rules.{rules}
 use Rattle.spoken.proofs.hearing.number_step.Goals as goal
 
 pub returns-in-Whole : goal.returns-in-Whole

@@ -3,7 +3,6 @@ use mathlib.Core.Path.{◌∙◌, ap}
 use Rattle.refusal.specs.Rows.{Said}
 use Rattle.amount.specs.declared.Amount.{Amount}
 use Rattle.spoken.specs.Hearing.{text_step}
-use borrow.Author.Rules.{rules}
 use Rattle.spoken.proofs.hearing.text_of.Goals as goal
 
 pub returns : goal.returns

@@ -1,10 +1,7 @@
 -- After each turn one word more is heard. Assumes nothing.
-use mathlib.Core.Path.{sym, ◌∙◌}
 use Prim.Native.Nat.{◌-◌}
-use native.Mathlib.Omega.{arith}
-use borrow.Author.Rules.{rules}
 use lib.ListN.{length}
-use Rattle.spoken.proofs.Turns.{Stands, none_heard, word_places, one_heard, empty_word, line_heard}
+use Rattle.spoken.proofs.Turns.{Stands}
 use Rattle.spoken.proofs.reading.read_words.Given as goal
 
 abbrev pub invariant-loop-at : goal.invariant-loop-at

@@ -1,44 +1,29 @@
 -- A record is bad by its head, by its coefficient, or by what stands behind it. Assumes nothing.
-use mathlib.Core.Path.{◌≡◌, refl, sym, ◌∙◌, ap, ap₂}
-use native.Mathlib.Omega.{arith}
-use borrow.Author.Rules.{rules}
-use mathlib.Core.Bool.{Bool, true, false}
-use Prim.Native.Nat.{ℕ, ◌+◌}
-use lib.Dec.{ltb}
+use Rattle.std.proofs.Common.{ℕ, ◌∙◌, sym, ap}
 use Rattle.whole.specs.Whole.{magnitude_of}
 use Rattle.amount.specs.Amounts.{over_l}
-use Rattle.statement.specs.Bytes.{number_at, from_word}
+use Rattle.statement.specs.Bytes.{from_word}
 use Rattle.statement.specs.Parts.{bad_head}
-use Rattle.statement.proofs.Widths.{wide}
 use Rattle.statement.proofs.Heads.{bad_by_head, bad_by_word, bad_by_code}
 use Rattle.statement.proofs.looking.bad_record.Goals as goal
 
-pub eight_at-requires : goal.eight_at-requires
-eight_at-requires c = omega (arith, c.requires.reasons_in_bounds, wide c.args.reasons)
-
 pub returns-then-bad_head : goal.returns-then-bad_head
 returns-then-bad_head c =
-    let headed : c.bad_head.result ≡ bad_head (number_at c.args.bytes.now c.args.at 8) c.args.agreed = c.bad_head.ensures ∙ ap (λ (n : ℕ). bad_head n c.args.agreed) c.eight_at.ensures in
     let a = c.args in
-    bad_by_head a.reasons a.bytes.now (λ i. (c.shared_slice_known-1.given i).fits) a.agreed a.at (sym headed ∙ c.if-bad_head.true)
-
-pub overflow_add-at : goal.overflow_add-at
-overflow_add-at c = omega (arith, c.requires.reasons_in_bounds, wide c.args.reasons)
-
-pub eight_at-requires-2 : goal.eight_at-requires-2
-eight_at-requires-2 c = omega (arith, c.requires.reasons_in_bounds, wide c.args.reasons)
+    let head = c.bad_head.ensures ∙ ap (λ (n : ℕ). bad_head n a.agreed) c.eight_at.ensures in
+    bad_by_head a.reasons a.bytes.now (λ i. (c.type_inv.bytes i).fits) a.agreed a.at (sym head ∙ c.if-bad_head.true)
 
 pub returns-then-bad_word : goal.returns-then-bad_word
 returns-then-bad_word c =
-    let headed : c.bad_head.result ≡ bad_head (number_at c.args.bytes.now c.args.at 8) c.args.agreed = c.bad_head.ensures ∙ ap (λ (n : ℕ). bad_head n c.args.agreed) c.eight_at.ensures in
-    let worded : c.bad_word.result ≡ over_l (magnitude_of (from_word (number_at c.args.bytes.now (c.args.at + 8) 8))) = c.bad_word.ensures ∙ ap (λ (n : ℕ). over_l (magnitude_of (from_word n))) c.eight_at-2.ensures in
     let a = c.args in
-    bad_by_word a.reasons a.bytes.now (λ i. (c.shared_slice_known-1.given i).fits) a.agreed a.at (sym headed ∙ c.if-bad_head.false) (sym worded ∙ c.if-bad_word.true)
+    let head = c.bad_head.ensures ∙ ap (λ (n : ℕ). bad_head n a.agreed) c.eight_at.ensures in
+    let word = c.bad_word.ensures ∙ ap (λ (n : ℕ). over_l (magnitude_of (from_word n))) c.eight_at-2.ensures in
+    bad_by_word a.reasons a.bytes.now (λ i. (c.type_inv.bytes i).fits) a.agreed a.at (sym head ∙ c.if-bad_head.false) (sym word ∙ c.if-bad_word.true)
 
 pub returns : goal.returns
 returns c =
-    let headed : c.bad_head.result ≡ bad_head (number_at c.args.bytes.now c.args.at 8) c.args.agreed = c.bad_head.ensures ∙ ap (λ (n : ℕ). bad_head n c.args.agreed) c.eight_at.ensures in
-    let worded : c.bad_word.result ≡ over_l (magnitude_of (from_word (number_at c.args.bytes.now (c.args.at + 8) 8))) = c.bad_word.ensures ∙ ap (λ (n : ℕ). over_l (magnitude_of (from_word n))) c.eight_at-2.ensures in
     let a = c.args in
+    let head = c.bad_head.ensures ∙ ap (λ (n : ℕ). bad_head n a.agreed) c.eight_at.ensures in
+    let word = c.bad_word.ensures ∙ ap (λ (n : ℕ). over_l (magnitude_of (from_word n))) c.eight_at-2.ensures in
     c.bad_code.ensures
-    ∙ bad_by_code a.reasons a.bytes.now (λ i. (c.shared_slice_known-1.given i).fits) a.agreed a.at (sym headed ∙ c.if-bad_head.false) (sym worded ∙ c.if-bad_word.false)
+    ∙ bad_by_code a.reasons a.bytes.now (λ i. (c.type_inv.bytes i).fits) a.agreed a.at (sym head ∙ c.if-bad_head.false) (sym word ∙ c.if-bad_word.false)

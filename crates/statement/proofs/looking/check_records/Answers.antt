@@ -1,124 +1,78 @@
 -- None of the records passed is bad, and the sum so far is theirs; the walk stands at the next one. Assumes nothing.
-use mathlib.Core.Path.{◌≡◌, refl, sym, ◌∙◌, ap, ap₂}
-use native.Mathlib.Omega.{arith}
-use borrow.Author.Rules.{rules}
-use mathlib.Core.Bool.{Bool, true, false}
-use Prim.Native.Nat.{ℕ, ◌+◌, ◌-◌, ◌≤◌, ◌<◌}
-use borrow.Author.Tests.{ne_eqb, eq-eqb}
-use lib.IntN.{ℤ}
-use lib.ListN.{length}
-use mir.Syntax.{w64}
-use mir.Val.{to_z, of_z}
+use Rattle.std.proofs.Common.{ℕ, ℤ, ◌≡◌, ◌+◌, ◌<◌, Bool, false, List, w64, to_z, of_z, sym, ap, ap₂, ◌∙◌, arith, rules}
 use Rattle.whole.proofs.Laws.{read_back}
-use Rattle.statement.specs.Bytes.{word_of}
-use Rattle.statement.specs.Files.{record_width, total_of}
+use Rattle.statement.specs.Files.{record_width, most_records}
 use Rattle.statement.specs.Writing.{any_of}
 use Rattle.statement.specs.Reading.{record_place, agreed_in, bad_record, coefficient_at, coefficients_in}
 use Rattle.statement.specs.Parts.{Few}
 use Rattle.statement.proofs.ReadBack.{number_below}
 use Rattle.statement.proofs.Any.{none_yet, still_none, found}
-use Rattle.statement.proofs.Totals.{total_none, sum_read, sum_fits, sum_more}
-use Rattle.statement.proofs.Walk.{record_inside, read_inside, walk_start, walk_on}
+use Rattle.statement.proofs.Totals.{total_none, sum_fits, sum_more}
+use Rattle.statement.proofs.Walk.{walk_start, walk_on}
 use Rattle.statement.proofs.Accepted.{all_small}
 use Rattle.statement.proofs.looking.check_records.Goals as goal
 
-pub loop-i-init : goal.loop-i-init
-loop-i-init c = let a = c.args in
-    (search rules, walk_start (record_width a.reasons) a.first, none_yet (λ k. bad_record a.reasons a.bytes.now (agreed_in a.bytes.now a.first) (record_place (record_width a.reasons) a.first k)), sym (ap (of_z w64) (total_none (coefficients_in a.bytes.now (record_width a.reasons) a.first))))
+module _ (reasons : Bool) (bytes : List ℕ) (first : ℕ) where
+  -- whether a record of the file is bad
+  abbrev bad_at : ℕ → Bool
+  bad_at i = bad_record reasons bytes (agreed_in bytes first) (record_place (record_width reasons) first i)
 
-pub bad_record-requires : goal.bad_record-requires
-bad_record-requires c = let start = c in
-    let a = start.args in
-    let at = c.loop-i in record {
-      agreed_bound = omega (arith, c.number_at-agreed.ensures, number_below a.bytes.now (λ i. (c.shared_slice_known-1.given i).fits) (a.first + 2) 2);
-      reasons_in_bounds = omega (arith, record_inside a.reasons (length a.bytes.now) a.first a.count start.requires at.i at.at at.invariant.1 c.loop-i-test.true);
-    }
+  module _ (i at : ℕ) (here : at ≡ record_place (record_width reasons) first i) where
+    -- what the walk looked at is that record
+    looked : (agreed : ℕ) (bad : Bool) → agreed ≡ agreed_in bytes first → bad ≡ bad_record reasons bytes agreed at → bad_at i ≡ bad
+    looked agreed bad agrees is = sym (is ∙ ap₂ (bad_record reasons bytes) agrees here)
+
+    -- and what it read is that record's coefficient
+    read : (z : ℤ) → to_z w64 (of_z w64 z) ≡ z → z ≡ coefficient_at bytes at → to_z w64 (of_z w64 z) ≡ coefficients_in bytes (record_width reasons) first i
+    read z held is = held ∙ is ∙ ap (coefficient_at bytes) here
+
+  -- a record more that is not bad
+  module _ (i : ℕ) (few : i < most_records) (none : any_of bad_at i ≡ false) (good : bad_at i ≡ false) where
+    still : any_of bad_at (i + 1) ≡ false
+    still = still_none bad_at i none good
+
+    small : Few (coefficients_in bytes (record_width reasons) first) (i + 1)
+    small = all_small reasons bytes first (i + 1) (omega arith) still
+
+pub loop-i-init : goal.loop-i-init
+loop-i-init c =
+    let a = c.args in (
+      search rules,
+      walk_start (record_width a.reasons) a.first,
+      none_yet (bad_at a.reasons a.bytes.now a.first),
+      sym (total_none (coefficients_in a.bytes.now (record_width a.reasons) a.first)),
+    )
+
+pub bad_record-requires-clause-agreed_bound : goal.bad_record-requires-clause-agreed_bound
+bad_record-requires-clause-agreed_bound c =
+    let a = c.args in
+    omega (arith, c.number_at-agreed.ensures, number_below a.bytes.now (λ i. (c.type_inv.bytes i).fits) (a.first + 2) 2)
 
 pub returns-then-bad_record : goal.returns-then-bad_record
 returns-then-bad_record c =
-    let looked : c.bad_record.result ≡ bad_record c.args.reasons c.args.bytes.now (agreed_in c.args.bytes.now c.args.first) (record_place (record_width c.args.reasons) c.args.first c.loop-i.i) = c.bad_record.ensures ∙ ap₂ (bad_record c.args.reasons c.args.bytes.now) c.number_at-agreed.ensures c.loop-i.invariant.1 in
     let a = c.args in
     let at = c.loop-i in
-    rw (found (λ k. bad_record a.reasons a.bytes.now (agreed_in a.bytes.now a.first) (record_place (record_width a.reasons) a.first k)) a.count at.i (omega arith) (sym looked ∙ c.if-bad_record.true))
-
-pub coefficient_at-requires : goal.coefficient_at-requires
-coefficient_at-requires c = let start = c in
-    let a = start.args in
-    let at = c.loop-i in
-    read_inside a.reasons (length a.bytes.now) a.first a.count start.requires at.i at.at at.invariant.1 c.loop-i-test.true
+    let bad = looked a.reasons a.bytes.now a.first at.i at.at at.invariant.1 _ _ c.number_at-agreed.ensures c.bad_record.ensures ∙ c.if-bad_record.true in
+    rw (found (bad_at a.reasons a.bytes.now a.first) a.count at.i (omega arith) bad)
 
 pub add-sum-requires : goal.add-sum-requires
 add-sum-requires c =
-    let looked : c.bad_record.result ≡ bad_record c.args.reasons c.args.bytes.now (agreed_in c.args.bytes.now c.args.first) (record_place (record_width c.args.reasons) c.args.first c.loop-i.i) = c.bad_record.ensures ∙ ap₂ (bad_record c.args.reasons c.args.bytes.now) c.number_at-agreed.ensures c.loop-i.invariant.1 in
-    let still : any_of (λ k. bad_record c.args.reasons c.args.bytes.now (agreed_in c.args.bytes.now c.args.first) (record_place (record_width c.args.reasons) c.args.first k)) (c.loop-i.i + 1) ≡ false =
     let a = c.args in
     let at = c.loop-i in
-    still_none (λ k. bad_record a.reasons a.bytes.now (agreed_in a.bytes.now a.first) (record_place (record_width a.reasons) a.first k)) at.i at.invariant.2 (sym looked ∙ c.if-bad_record.false) in
-    let small : Few (coefficients_in c.args.bytes.now (record_width c.args.reasons) c.args.first) (c.loop-i.i + 1) =
-    let start = c in
-    let a = start.args in
-    all_small a.reasons a.bytes.now a.first (c.loop-i.i + 1) (omega (arith, start.requires.few, c.loop-i-test.true)) still in
-    let read : to_z w64 (of_z w64 c.coefficient_at.result) ≡ coefficients_in c.args.bytes.now (record_width c.args.reasons) c.args.first c.loop-i.i = read_back c.coefficient_at.result c.coefficient_at.type_inv ∙ c.coefficient_at.ensures ∙ ap (coefficient_at c.args.bytes.now) c.loop-i.invariant.1 in
-    let a = c.args in
-    let at = c.loop-i in
-    sum_fits (coefficients_in a.bytes.now (record_width a.reasons) a.first) (at.i + 1) small at.i at.sum at.invariant.3 (omega arith) _ read
-
-pub overflow_add-at : goal.overflow_add-at
-overflow_add-at c = let start = c in
-    let a = start.args in
-    let at = c.loop-i in
-    omega (arith, c.width_of_lem.ensures, record_inside a.reasons (length a.bytes.now) a.first a.count start.requires at.i at.at at.invariant.1 c.loop-i-test.true)
+    let z = c.coefficient_at.result in
+    let good = looked a.reasons a.bytes.now a.first at.i at.at at.invariant.1 _ _ c.number_at-agreed.ensures c.bad_record.ensures ∙ c.if-bad_record.false in
+    sum_fits (coefficients_in a.bytes.now (record_width a.reasons) a.first) (at.i + 1) (small a.reasons a.bytes.now a.first at.i (omega arith) at.invariant.2 good)
+    at.i _ at.invariant.3 (omega arith) _ (read a.reasons a.bytes.now a.first at.i at.at at.invariant.1 z (read_back z c.coefficient_at.type_inv) c.coefficient_at.ensures)
 
 pub loop-i-preserved : goal.loop-i-preserved
 loop-i-preserved c =
-    let looked : c.bad_record.result ≡ bad_record c.args.reasons c.args.bytes.now (agreed_in c.args.bytes.now c.args.first) (record_place (record_width c.args.reasons) c.args.first c.loop-i.i) = c.bad_record.ensures ∙ ap₂ (bad_record c.args.reasons c.args.bytes.now) c.number_at-agreed.ensures c.loop-i.invariant.1 in
-    let still : any_of (λ k. bad_record c.args.reasons c.args.bytes.now (agreed_in c.args.bytes.now c.args.first) (record_place (record_width c.args.reasons) c.args.first k)) (c.loop-i.i + 1) ≡ false =
     let a = c.args in
     let at = c.loop-i in
-    still_none (λ k. bad_record a.reasons a.bytes.now (agreed_in a.bytes.now a.first) (record_place (record_width a.reasons) a.first k)) at.i at.invariant.2 (sym looked ∙ c.if-bad_record.false) in
-    let small : Few (coefficients_in c.args.bytes.now (record_width c.args.reasons) c.args.first) (c.loop-i.i + 1) =
-    let start = c in
-    let a = start.args in
-    all_small a.reasons a.bytes.now a.first (c.loop-i.i + 1) (omega (arith, start.requires.few, c.loop-i-test.true)) still in
-    let read : to_z w64 (of_z w64 c.coefficient_at.result) ≡ coefficients_in c.args.bytes.now (record_width c.args.reasons) c.args.first c.loop-i.i = read_back c.coefficient_at.result c.coefficient_at.type_inv ∙ c.coefficient_at.ensures ∙ ap (coefficient_at c.args.bytes.now) c.loop-i.invariant.1 in
-    let a = c.args in
-    let at = c.loop-i in (
+    let z = c.coefficient_at.result in
+    let good = looked a.reasons a.bytes.now a.first at.i at.at at.invariant.1 _ _ c.number_at-agreed.ensures c.bad_record.ensures ∙ c.if-bad_record.false in (
       omega arith,
-      ap (λ (w : ℕ). at.at + w) c.width_of_lem.ensures ∙ walk_on (record_width a.reasons) a.first at.i at.at at.invariant.1,
-      still,
-      sum_more (coefficients_in a.bytes.now (record_width a.reasons) a.first) (at.i + 1) small at.i at.sum at.invariant.3 (omega arith) _ read c.add-sum.result c.add-sum.ensures,
+      ap (λ (w : ℕ). at.at + w) c.width_of-width.ensures ∙ walk_on (record_width a.reasons) a.first at.i at.at at.invariant.1,
+      still a.reasons a.bytes.now a.first at.i (omega arith) at.invariant.2 good,
+      sum_more (coefficients_in a.bytes.now (record_width a.reasons) a.first) (at.i + 1) (small a.reasons a.bytes.now a.first at.i (omega arith) at.invariant.2 good)
+          at.i _ at.invariant.3 (omega arith) _ (read a.reasons a.bytes.now a.first at.i at.at at.invariant.1 z (read_back z c.coefficient_at.type_inv) c.coefficient_at.ensures) c.add-sum.result c.add-sum.ensures,
     )
-
-pub returns-then-word_of-word : goal.returns-then-word_of-word
-returns-then-word_of-word c =
-    let none : any_of (λ k. bad_record c.args.reasons c.args.bytes.now (agreed_in c.args.bytes.now c.args.first) (record_place (record_width c.args.reasons) c.args.first k)) c.args.count ≡ false =
-    let a = c.args in
-    let at = c.loop-i in
-    let all : a.count ≡ at.i = omega arith in
-    ap (any_of (λ k. bad_record a.reasons a.bytes.now (agreed_in a.bytes.now a.first) (record_place (record_width a.reasons) a.first k))) all ∙ at.invariant.2 in
-    let word : c.word_of.result ≡ word_of (total_of (coefficients_in c.args.bytes.now (record_width c.args.reasons) c.args.first) c.args.count) =
-    let start = c in
-    let a = start.args in
-    let at = c.loop-i in
-    let all : at.i ≡ a.count = omega arith in
-    let f : ℕ → ℤ = (coefficients_in a.bytes.now (record_width a.reasons) a.first) in
-    c.word_of.ensures
-    ∙ ap word_of (sum_read f a.count (all_small a.reasons a.bytes.now a.first a.count start.requires.few none) at.i at.sum at.invariant.3 (omega arith) ∙ ap (total_of f) all) in
-    rw (none, ne_eqb _ _ (λ e. c.if-word_of-word.true (word ∙ e)))
-
-pub returns : goal.returns
-returns c =
-    let none : any_of (λ k. bad_record c.args.reasons c.args.bytes.now (agreed_in c.args.bytes.now c.args.first) (record_place (record_width c.args.reasons) c.args.first k)) c.args.count ≡ false =
-    let a = c.args in
-    let at = c.loop-i in
-    let all : a.count ≡ at.i = omega arith in
-    ap (any_of (λ k. bad_record a.reasons a.bytes.now (agreed_in a.bytes.now a.first) (record_place (record_width a.reasons) a.first k))) all ∙ at.invariant.2 in
-    let word : c.word_of.result ≡ word_of (total_of (coefficients_in c.args.bytes.now (record_width c.args.reasons) c.args.first) c.args.count) =
-    let start = c in
-    let a = start.args in
-    let at = c.loop-i in
-    let all : at.i ≡ a.count = omega arith in
-    let f : ℕ → ℤ = (coefficients_in a.bytes.now (record_width a.reasons) a.first) in
-    c.word_of.ensures
-    ∙ ap word_of (sum_read f a.count (all_small a.reasons a.bytes.now a.first a.count start.requires.few none) at.i at.sum at.invariant.3 (omega arith) ∙ ap (total_of f) all) in
-    rw (none, eq-eqb _ _ (sym word ∙ c.if-word_of-word.false))

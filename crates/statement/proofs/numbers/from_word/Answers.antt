@@ -1,11 +1,7 @@
 -- A word below 2^63 is the coefficient; else 2^64 less the word is its magnitude below 0. Assumes nothing.
-use mathlib.Core.Path.{◌≡◌, refl, sym, ◌∙◌, ap, ap₂}
-use borrow.Author.Rules.{rules}
-use native.Mathlib.Omega.{arith}
+use mathlib.Core.Path.{◌∙◌}
 use Rattle.whole.proofs.Laws.{read_back}
 use Rattle.statement.proofs.Words.{held_small, held_large}
-use borrow.Author.Rules.{rules}
-use Rattle.whole.proofs.signed.Reads as signed-Reads
 use Rattle.statement.proofs.numbers.from_word.Goals as goal
 
 pub returns-then-word-lt9223372036854775808 : goal.returns-then-word-lt9223372036854775808

@@ -1,12 +1,8 @@
 -- The bytes passed, from the last one on, hold the number so far. Assumes nothing.
-use mathlib.Core.Path.{◌≡◌, refl, sym, ◌∙◌, ap, ap₂}
 use borrow.Author.Rules.{rules}
 use native.Mathlib.Omega.{arith}
-use Prim.Native.Nat.{ℕ, ◌+◌, ◌-◌, ◌≤◌}
-use lib.ListN.{length, get_or}
-use Rattle.statement.specs.Bytes.{number_at}
-use Rattle.statement.proofs.ReadBack.{Bytes, none_read, number_step_lem, all_read, number_fits}
-use Rattle.statement.proofs.numbers.wide.Reads as wide-reads
+use Prim.Native.Nat.{◌+◌, ◌-◌}
+use Rattle.statement.proofs.ReadBack.{none_read, number_step, number_fits}
 use Rattle.statement.proofs.numbers.number_at.Goals as goal
 
 pub loop-i-init : goal.loop-i-init
@@ -15,22 +11,16 @@ loop-i-init c = (search rules, none_read _ _ _)
 pub overflow_mul-number : goal.overflow_mul-number
 overflow_mul-number c = let a = c.args in
     let at = c.loop-i in
-    omega (arith, at.invariant.1, number_fits a.bytes.now (λ i. (c.shared_slice_known-1.given i).fits) (a.at + at.i) (a.count - at.i) (omega arith))
+    omega (arith, at.invariant.1, number_fits a.bytes.now (λ i. (c.type_inv.bytes i).fits) (a.at + at.i) (a.count - at.i) (omega arith))
 
 pub overflow_add-number : goal.overflow_add-number
 overflow_add-number c = let a = c.args in
     let at = c.loop-i in
-    omega (arith, at.invariant.1, c.wide.ensures, c.shared_slice_known-in-loop-i-1.given (a.at + (at.i - 1)), number_fits a.bytes.now (λ i. (c.shared_slice_known-in-loop-i-1.given i).fits) (a.at + at.i) (a.count - at.i) (omega arith))
+    omega (arith, at.invariant.1, c.wide.ensures, c.type_inv.bytes (a.at + (at.i - 1)), number_fits a.bytes.now (λ i. (c.type_inv.bytes i).fits) (a.at + at.i) (a.count - at.i) (omega arith))
 
 pub loop-i-preserved : goal.loop-i-preserved
 loop-i-preserved c = let a = c.args in
     let at = c.loop-i in (
       omega arith,
-      number_step_lem a.bytes.now a.at at.i a.count at.number c.wide.result (omega arith) at.invariant.0 at.invariant.1 c.wide.ensures,
+      number_step a.bytes.now a.at at.i a.count at.number c.wide.result (omega arith) at.invariant.0 at.invariant.1 c.wide.ensures,
     )
-
-pub returns : goal.returns
-returns c = let a = c.args in
-    let at = c.loop-i in
-    let none : at.i ≡ 0 = omega arith in
-    at.invariant.1 ∙ all_read a.bytes.now a.at a.count at.i none

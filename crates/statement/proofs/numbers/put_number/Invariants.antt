@@ -1,13 +1,9 @@
 -- The places passed hold the number's first bytes, and what is left of the number has the others. Assumes nothing.
-use mathlib.Core.Path.{◌≡◌, refl, sym, ◌∙◌, ap, ap₂}
-use borrow.Author.Rules.{rules}
-use native.Mathlib.Omega.{arith}
-use Prim.Native.Nat.{ℕ, ◌+◌, ◌-◌, ◌≤◌}
-use lib.ListN.{length, drop}
-use lib.Seq.{paste, paste-zero, length-paste}
+use mathlib.Core.Path.{◌≡◌}
+use Prim.Native.Nat.{◌-◌, ◌≤◌}
+use lib.ListN.{drop}
+use lib.Seq.{paste}
 use Rattle.statement.specs.Bytes.{little_endian}
-use Rattle.statement.proofs.ReadBack.{length_little}
-use Rattle.statement.proofs.Putting.{put_start, put_rest, put_more, put_all}
 use Rattle.statement.proofs.numbers.put_number.Given as goal
 
 abbrev pub invariant-loop-i : goal.invariant-loop-i

@@ -1,25 +1,11 @@
 -- Below 0 the word is 2^64 less the magnitude, which is at most 2^63; from 0 on it is the magnitude. Assumes nothing.
-use mathlib.Core.Path.{◌≡◌, refl, sym, ◌∙◌, ap, ap₂}
-use borrow.Author.Rules.{rules}
-use native.Mathlib.Omega.{arith}
-use Prim.Native.Nat.{ℕ, ◌+◌, ◌-◌, ◌<◌, ◌≤◌, ◌^◌}
+use mathlib.Core.Path.{◌≡◌, sym, ◌∙◌, ap}
+use Prim.Native.Nat.{ℕ, ◌+◌, ◌-◌}
 use mir.Syntax.{w64}
 use mir.ValLaws.{to_z-of_z}
 use Rattle.whole.specs.Whole.{negative, magnitude_of}
-use Rattle.statement.proofs.Words.{above, within, word_negative, word_positive}
-use borrow.Author.Rules.{rules}
-use Rattle.whole.proofs.is_negative.Reads as is-negative-reads
-use Rattle.whole.proofs.magnitude.Reads as magnitude-reads
+use Rattle.statement.proofs.Words.{within, word_negative, word_positive}
 use Rattle.statement.proofs.numbers.word_of.Goals as goal
-
-pub overflow_add-result : goal.overflow_add-result
-overflow_add-result c =
-    let sign : c.is_negative.result ≡ negative c.args.coefficient = c.is_negative.ensures ∙ ap negative (to_z-of_z w64 c.args.coefficient c.ranges.coefficient) in
-    let asked : c.magnitude-m.result ≡ magnitude_of c.args.coefficient = c.magnitude-m.ensures ∙ ap magnitude_of (to_z-of_z w64 c.args.coefficient c.ranges.coefficient) in
-    let some : 0 < c.magnitude-m.result =
-    let z = c.args.coefficient in
-    rw asked (above z (sym sign ∙ c.if-is_negative.true)) in
-    omega (arith, some)
 
 pub returns-then-is_negative : goal.returns-then-is_negative
 returns-then-is_negative c =

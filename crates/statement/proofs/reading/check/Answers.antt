@@ -1,7 +1,5 @@
 -- What the check lets pass is a file of version 1, whose trailer is read. Assumes nothing.
-use mathlib.Core.Path.{◌≡◌, refl, sym, ◌∙◌, ap, ap₂}
-use native.Mathlib.Omega.{arith}
-use borrow.Author.Rules.{rules}
+use mathlib.Core.Path.{sym, ◌∙◌, ap}
 use mathlib.Core.Bool.{false}
 use mathlib.Core.List.{[], ◌∷◌}
 use Rattle.refusal.specs.declared.Refusal.TheVariants.{Newer}

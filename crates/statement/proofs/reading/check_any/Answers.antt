@@ -1,15 +1,10 @@
 -- What the check lets pass is a file of the version that its trailer holds. Assumes nothing.
-use mathlib.Core.Path.{◌≡◌, refl, sym, ◌∙◌, ap, ap₂}
-use native.Mathlib.Omega.{arith}
-use borrow.Author.Rules.{rules}
+use mathlib.Core.Path.{◌≡◌, sym, ◌∙◌, ap}
 use mathlib.Core.Path.{subst}
 use mathlib.Core.Bool.{Bool}
-use mathlib.Core.List.{List}
-use Prim.Native.Nat.{ℕ}
 use Rattle.refusal.specs.declared.Checked.TheVariants.{Passed}
 use Rattle.refusal.specs.Rows.{gives, check_of}
 use Rattle.refusal.proofs.Check.{passed, refused}
-use Rattle.statement.specs.declared.SummaryOfAny.{SummaryOfAny}
 use Rattle.statement.specs.Reading.{reasons_in, version_rows, any_rows, summary_in, any_said}
 use Rattle.statement.proofs.Accepted.{accepted}
 use Rattle.statement.proofs.reading.check_any.Goals as goal

@@ -1,25 +1,13 @@
 -- Too few bytes for a trailer are no file; else the rows of its version decide. Assumes nothing.
-use mathlib.Core.Path.{◌≡◌, refl, sym, ◌∙◌, ap, ap₂}
-use native.Mathlib.Omega.{arith}
-use borrow.Author.Rules.{rules}
-use mathlib.Core.Bool.{Bool}
-use mathlib.Core.List.{List}
-use Prim.Native.Nat.{ℕ, ◌-◌}
-use borrow.Author.Tests.{lt-ltb, le-ltb}
-use lib.ListN.{length}
-use Rattle.refusal.specs.Rows.{check_of}
-use Rattle.statement.specs.Reading.{trailer_place, trailer_in, file_rows, reasons_in, version_rows, any_rows}
+use Rattle.std.proofs.Common.{arith}
+use Rattle.std.proofs.lemmas.Grind.{common_steps}
+use Rattle.statement.specs.Reading.{version_rows, any_rows}
 use Rattle.statement.proofs.reading.check_any_file.Goals as goal
 
 pub returns-then-bytes-lt-TRAILER : goal.returns-then-bytes-lt-TRAILER
 unfolding any_rows version_rows
-returns-then-bytes-lt-TRAILER c = rw (lt-ltb (length c.args.bytes.now) 24 c.if-bytes-lt-TRAILER.true)
-
-pub has_reasons-requires : goal.has_reasons-requires
-has_reasons-requires c = c.if-bytes-lt-TRAILER.false
+returns-then-bytes-lt-TRAILER c = grind (arith, common_steps)
 
 pub returns : goal.returns
 unfolding any_rows version_rows
-returns c = let bytes = c.args.bytes.now in
-    rw (le-ltb (length bytes) 24 c.if-bytes-lt-TRAILER.false)
-    (c.check_at.ensures ∙ ap (λ (r : Bool). check_of (file_rows r bytes (trailer_place bytes) (trailer_in bytes))) c.has_reasons.ensures)
+returns c = grind (arith, common_steps)

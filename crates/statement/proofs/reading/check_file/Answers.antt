@@ -1,25 +1,17 @@
 -- Too few bytes for a trailer are no file; a trailer of version 2 is newer; else the rows of version 1 decide. Assumes nothing.
-use mathlib.Core.Path.{◌≡◌, refl, sym, ◌∙◌, ap, ap₂}
-use native.Mathlib.Omega.{arith}
-use borrow.Author.Rules.{rules}
-use mathlib.Core.Bool.{Bool, true, false}
-use borrow.Author.Tests.{lt-ltb, le-ltb}
-use lib.ListN.{length}
-use Rattle.statement.specs.Reading.{trailer_in, newer_at, newer, version_rows, read_rows}
+use Rattle.std.proofs.Common.{arith}
+use Rattle.std.proofs.lemmas.Grind.{common_steps}
+use Rattle.statement.specs.Reading.{newer, version_rows, read_rows}
 use Rattle.statement.proofs.reading.check_file.Goals as goal
 
 pub returns-then-bytes-lt-TRAILER : goal.returns-then-bytes-lt-TRAILER
 unfolding read_rows newer version_rows
-returns-then-bytes-lt-TRAILER c = rw (lt-ltb (length c.args.bytes.now) 24 c.if-bytes-lt-TRAILER.true)
+returns-then-bytes-lt-TRAILER c = grind (arith, common_steps)
 
 pub returns-then-is_newer : goal.returns-then-is_newer
 unfolding read_rows newer version_rows
-returns-then-is_newer c =
-    let told : c.is_newer.result ≡ newer_at (trailer_in c.args.bytes.now) = c.is_newer.ensures ∙ ap newer_at c.trailer_at.ensures in
-    rw (le-ltb (length c.args.bytes.now) 24 c.if-bytes-lt-TRAILER.false, sym told ∙ c.if-is_newer.true)
+returns-then-is_newer c = grind (arith, common_steps)
 
 pub returns : goal.returns
 unfolding read_rows newer version_rows
-returns c =
-    let told : c.is_newer.result ≡ newer_at (trailer_in c.args.bytes.now) = c.is_newer.ensures ∙ ap newer_at c.trailer_at.ensures in
-    rw (le-ltb (length c.args.bytes.now) 24 c.if-bytes-lt-TRAILER.false, sym told ∙ c.if-is_newer.false) c.check_at.ensures
+returns c = grind (arith, common_steps)

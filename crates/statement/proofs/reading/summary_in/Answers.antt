@@ -1,7 +1,6 @@
 -- A file's trailer has its numbers. Assumes nothing.
-use mathlib.Core.Path.{◌≡◌, refl, sym, ◌∙◌, ap, ap₂}
+use mathlib.Core.Path.{◌∙◌}
 use native.Mathlib.Omega.{arith}
-use borrow.Author.Rules.{rules}
 use Rattle.whole.proofs.Laws.{read_back}
 use Rattle.statement.proofs.Accepted.{accepted, summary_is}
 use Rattle.statement.proofs.reading.summary_in.Goals as goal

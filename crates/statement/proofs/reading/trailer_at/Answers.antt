@@ -1,7 +1,4 @@
 -- Each number is read at its place. Assumes nothing.
-use mathlib.Core.Path.{◌≡◌, refl, sym, ◌∙◌, ap, ap₂}
-use native.Mathlib.Omega.{arith}
-use borrow.Author.Rules.{rules}
 use Rattle.statement.specs.Reading.{trailer_at}
 use Rattle.statement.proofs.reading.trailer_at.Goals as goal
 

@@ -1,31 +1,13 @@
 -- The six fields are put in one behind the other. Assumes nothing.
-use mathlib.Core.Path.{◌≡◌, refl, sym, ◌∙◌, ap, ap₂}
-use native.Mathlib.Omega.{arith}
-use borrow.Author.Rules.{rules}
+use mathlib.Core.Path.{◌≡◌, ◌∙◌, ap, ap₂}
 use mathlib.Core.List.{List}
 use Prim.Native.Nat.{ℕ, ◌+◌}
 use mir.Syntax.{w64}
 use mir.ValLaws.{to_z-of_z}
 use Rattle.statement.specs.Bytes.{little_endian, word_of, pasted}
 use Rattle.statement.specs.Files.{code_bytes, code_zeros, record_fields, record_bytes}
-use Rattle.statement.proofs.Widths.{wide}
 use Rattle.statement.proofs.Putting.{puts_are}
 use Rattle.statement.proofs.records.put_record.Goals as goal
-
-pub put_number-requires : goal.put_number-requires
-put_number-requires c = omega (arith, c.requires, wide c.args.reasons)
-
-pub put_number-requires-2 : goal.put_number-requires-2
-put_number-requires-2 c = omega (arith, c.put_number.auto, c.requires, wide c.args.reasons)
-
-pub put_number-requires-3 : goal.put_number-requires-3
-put_number-requires-3 c = omega (arith, c.put_number.auto, c.put_number-2.auto, c.requires, wide c.args.reasons)
-
-pub put_number-requires-4 : goal.put_number-requires-4
-put_number-requires-4 c = omega (arith, c.put_number.auto, c.put_number-2.auto, c.put_number-3.auto, c.requires, wide c.args.reasons)
-
-pub put_code-requires : goal.put_code-requires
-put_code-requires c = omega (arith, c.put_number.auto, c.put_number-2.auto, c.put_number-3.auto, c.put_number-4.auto, c.requires)
 
 pub returns : goal.returns
 unfolding record_bytes

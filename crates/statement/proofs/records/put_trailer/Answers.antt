@@ -1,6 +1,5 @@
 -- The five fields are put in one behind the other. Assumes nothing.
-use mathlib.Core.Path.{◌≡◌, refl, sym, ◌∙◌, ap, ap₂}
-use native.Mathlib.Omega.{arith}
+use mathlib.Core.Path.{◌≡◌, ◌∙◌, ap, ap₂}
 use Prim.Native.Nat.{ℕ, ◌*◌}
 use mathlib.Core.List.{List}
 use mir.Syntax.{w64}
@@ -8,7 +7,6 @@ use mir.ValLaws.{to_z-of_z}
 use Rattle.statement.specs.Bytes.{little_endian, word_of, pasted}
 use Rattle.statement.specs.Files.{trailer_fields, trailer_bytes}
 use Rattle.statement.proofs.Putting.{puts_are}
-use borrow.Author.Rules.{rules}
 use Rattle.statement.proofs.records.put_trailer.Goals as goal
 
 pub returns : goal.returns

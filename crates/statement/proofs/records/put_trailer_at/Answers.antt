@@ -1,5 +1,5 @@
 -- What is put to the front of the lent part stands in the buffer from the place on. Assumes nothing.
-use mathlib.Core.Path.{◌≡◌, refl, sym, ◌∙◌, ap, ap₂}
+use mathlib.Core.Path.{◌∙◌, ap}
 use native.Mathlib.Omega.{arith}
 use mathlib.Core.List.{List, ◌++◌}
 use Prim.Native.Nat.{ℕ, ◌-◌}
@@ -11,7 +11,6 @@ use Rattle.statement.specs.Bytes.{pasted}
 use lib.ListN.{length, take, drop}
 use Rattle.statement.specs.Files.{trailer_bytes}
 use Rattle.statement.proofs.Pasting.{paste_lent}
-use borrow.Author.Rules.{rules}
 use Rattle.statement.proofs.records.put_trailer_at.Goals as goal
 
 pub returns : goal.returns

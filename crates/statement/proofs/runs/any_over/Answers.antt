@@ -1,18 +1,10 @@
 -- None of the coefficients passed is over L. Assumes nothing.
-use mathlib.Core.Path.{◌≡◌, refl, sym, ◌∙◌, ap, ap₂}
-use borrow.Author.Rules.{rules}
-use native.Mathlib.Omega.{arith}
-use mathlib.Core.Bool.{false}
-use Prim.Native.Nat.{ℕ, ◌-◌, ◌≤◌}
-use borrow.Author.Tests.{lt-ltb, le-ltb}
-use lib.IntN.{pos}
-use lib.ListN.{length, get_or}
+use Rattle.std.proofs.Common.{pos, length, get_or, sym, ap, ◌∙◌, arith, rules, lt-ltb, le-ltb}
 use Rattle.whole.specs.Whole.{magnitude_of}
 use Rattle.whole.proofs.Laws.{read_back}
 use Rattle.amount.specs.Amounts.{largest}
-use Rattle.statement.specs.Writing.{any_of, over_at}
+use Rattle.statement.specs.Writing.{over_at}
 use Rattle.statement.proofs.Any.{none_yet, still_none, found}
-use Rattle.whole.proofs.magnitude.Reads as magnitude-reads
 use Rattle.statement.proofs.runs.any_over.Goals as goal
 
 pub loop-i-init : goal.loop-i-init
@@ -20,23 +12,16 @@ loop-i-init c = (search rules, none_yet (over_at c.args.coefficients.now))
 
 pub returns-then-magnitude-gt-L : goal.returns-then-magnitude-gt-L
 returns-then-magnitude-gt-L c =
-    let read : c.magnitude.result ≡ magnitude_of (get_or c.args.coefficients.now c.loop-i.i (pos 0)) =
-    let z = get_or c.args.coefficients.now c.loop-i.i (pos 0) in
-    c.magnitude.ensures ∙ ap magnitude_of (read_back z c.magnitude-arg-1.given) in
     let cs = c.args.coefficients.now in
     let i = c.loop-i.i in
-    sym (found (over_at cs) (length cs) i (omega arith) (lt-ltb largest (magnitude_of (get_or cs i (pos 0))) (omega (arith, read))))
+    let z = get_or cs i (pos 0) in
+    let read = c.magnitude.ensures ∙ ap magnitude_of (read_back z (omega arith)) in
+    sym (found (over_at cs) (length cs) i (omega arith) (lt-ltb largest (magnitude_of z) (omega (arith, read))))
 
 pub loop-i-preserved : goal.loop-i-preserved
 loop-i-preserved c =
-    let read : c.magnitude.result ≡ magnitude_of (get_or c.args.coefficients.now c.loop-i.i (pos 0)) =
-    let z = get_or c.args.coefficients.now c.loop-i.i (pos 0) in
-    c.magnitude.ensures ∙ ap magnitude_of (read_back z c.magnitude-arg-1.given) in
     let cs = c.args.coefficients.now in
     let at = c.loop-i in
-    (omega arith, still_none (over_at cs) at.i at.invariant.1 (le-ltb largest (magnitude_of (get_or cs at.i (pos 0))) (omega (arith, read))))
-
-pub returns : goal.returns
-returns c = let cs = c.args.coefficients.now in
-    let all : c.loop-i.i ≡ length cs = omega arith in
-    sym (ap (any_of (over_at cs)) (sym all) ∙ c.loop-i.invariant.1)
+    let z = get_or cs at.i (pos 0) in
+    let read = c.magnitude.ensures ∙ ap magnitude_of (read_back z (omega arith)) in
+    (omega arith, still_none (over_at cs) at.i at.invariant.1 (le-ltb largest (magnitude_of z) (omega (arith, read))))

@@ -1,12 +1,10 @@
 -- None of the numbers passed is over the last. Assumes nothing.
-use mathlib.Core.Path.{◌≡◌, refl, sym, ◌∙◌, ap, ap₂}
+use mathlib.Core.Path.{sym}
 use borrow.Author.Rules.{rules}
 use native.Mathlib.Omega.{arith}
-use mathlib.Core.Bool.{false}
-use Prim.Native.Nat.{ℕ, ◌-◌, ◌≤◌}
 use borrow.Author.Tests.{lt-ltb, le-ltb}
 use lib.ListN.{length, get_or}
-use Rattle.statement.specs.Writing.{any_of, past_at}
+use Rattle.statement.specs.Writing.{past_at}
 use Rattle.statement.proofs.Any.{none_yet, still_none, found}
 use Rattle.statement.proofs.runs.any_past.Goals as goal
 
@@ -24,9 +22,3 @@ loop-i-preserved c = let last = c.args.last in
     let numbers = c.args.numbers.now in
     let at = c.loop-i in
     (omega arith, still_none (past_at last numbers) at.i at.invariant.1 (le-ltb last (get_or numbers at.i 0) c.if-last-numbers.false))
-
-pub returns : goal.returns
-returns c = let last = c.args.last in
-    let numbers = c.args.numbers.now in
-    let all : c.loop-i.i ≡ length numbers = omega arith in
-    sym (ap (any_of (past_at last numbers)) (sym all) ∙ c.loop-i.invariant.1)

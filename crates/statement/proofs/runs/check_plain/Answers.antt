@@ -1,7 +1,5 @@
 -- What the lists are asked for, each by itself. Assumes nothing.
-use mathlib.Core.Path.{◌≡◌, refl, sym, ◌∙◌, ap, ap₂}
-use native.Mathlib.Omega.{arith}
-use borrow.Author.Rules.{rules}
+use mathlib.Core.Path.{sym}
 use Rattle.statement.specs.Writing.{write_rows}
 use Rattle.statement.proofs.runs.check_plain.Goals as goal
 

@@ -1,7 +1,5 @@
 -- What the three lists are asked for, each by itself. Assumes nothing.
-use mathlib.Core.Path.{◌≡◌, refl, sym, ◌∙◌, ap, ap₂}
-use native.Mathlib.Omega.{arith}
-use borrow.Author.Rules.{rules}
+use mathlib.Core.Path.{sym, ◌∙◌, ap₂}
 use mathlib.Core.Bool.{Bool, ◌||◌}
 use Rattle.statement.specs.Writing.{reasons_rows}
 use Rattle.statement.proofs.runs.check_reasons.Goals as goal

@@ -1,33 +1,13 @@
 -- A record that stands before the trailer ends there. Assumes nothing.
-use mathlib.Core.Path.{◌≡◌, refl, sym, ◌∙◌, ap, ap₂}
-use native.Mathlib.Omega.{arith}
-use borrow.Author.Rules.{rules}
-use mathlib.Core.Bool.{Bool, true, false}
-use Prim.Native.Nat.{ℕ, ◌+◌}
-use lib.ListN.{length}
-use Rattle.statement.specs.Files.{record_width}
-use Rattle.statement.proofs.Widths.{narrow}
-use Rattle.statement.proofs.Walk.{goes_on_lem}
-use Rattle.statement.specs.Walking.{ended, place_after}
+use Rattle.std.proofs.Common.{arith}
+use Rattle.std.proofs.lemmas.Grind.{common_steps}
+use Rattle.statement.specs.Walking.{place_after}
 use Rattle.statement.proofs.walking.any_place.Goals as goal
-
-pub is_ended-requires : goal.is_ended-requires
-is_ended-requires c = omega (arith, c.width_of_lem.ensures, narrow c.args.reasons)
 
 pub returns-then-is_ended : goal.returns-then-is_ended
 unfolding place_after
-returns-then-is_ended c =
-    let told : c.is_ended.result ≡ ended (record_width c.args.reasons) (length c.args.bytes.now) c.args.at = c.is_ended.ensures ∙ ap (λ (w : ℕ). ended w (length c.args.bytes.now) c.args.at) c.width_of_lem.ensures in
-    rw (sym told ∙ c.if-is_ended.true)
-
-pub overflow_add-result : goal.overflow_add-result
-overflow_add-result c =
-    let told : c.is_ended.result ≡ ended (record_width c.args.reasons) (length c.args.bytes.now) c.args.at = c.is_ended.ensures ∙ ap (λ (w : ℕ). ended w (length c.args.bytes.now) c.args.at) c.width_of_lem.ensures in
-    let a = c.args in
-    omega (arith, c.width_of_lem.ensures, goes_on_lem (record_width a.reasons) (length a.bytes.now) a.at (sym told ∙ c.if-is_ended.false))
+returns-then-is_ended c = grind (arith, common_steps)
 
 pub returns : goal.returns
 unfolding place_after
-returns c =
-    let told : c.is_ended.result ≡ ended (record_width c.args.reasons) (length c.args.bytes.now) c.args.at = c.is_ended.ensures ∙ ap (λ (w : ℕ). ended w (length c.args.bytes.now) c.args.at) c.width_of_lem.ensures in
-    rw (sym told ∙ c.if-is_ended.false) (ap (λ (w : ℕ). c.args.at + w) c.width_of_lem.ensures)
+returns c = grind (arith, common_steps)

@@ -1,33 +1,13 @@
 -- A record that stands before the trailer is read. Assumes nothing.
-use mathlib.Core.Path.{◌≡◌, refl, sym, ◌∙◌, ap, ap₂}
-use native.Mathlib.Omega.{arith}
-use borrow.Author.Rules.{rules}
-use mathlib.Core.Bool.{Bool, true, false}
-use Prim.Native.Nat.{ℕ, ◌+◌}
-use lib.ListN.{length}
-use Rattle.statement.specs.Files.{record_width}
-use Rattle.statement.proofs.Widths.{narrow}
-use Rattle.statement.proofs.Walk.{goes_on_lem}
-use Rattle.statement.specs.Walking.{ended, any_step}
+use Rattle.std.proofs.Common.{arith}
+use Rattle.std.proofs.lemmas.Grind.{common_steps}
+use Rattle.statement.specs.Walking.{any_step}
 use Rattle.statement.proofs.walking.any_step.Goals as goal
-
-pub is_ended-requires : goal.is_ended-requires
-is_ended-requires c = omega (arith, c.width_of_lem.ensures, narrow c.args.reasons)
 
 pub returns-then-is_ended : goal.returns-then-is_ended
 unfolding any_step
-returns-then-is_ended c =
-    let told : c.is_ended.result ≡ ended (record_width c.args.reasons) (length c.args.bytes.now) c.args.at = c.is_ended.ensures ∙ ap (λ (w : ℕ). ended w (length c.args.bytes.now) c.args.at) c.width_of_lem.ensures in
-    rw (sym told ∙ c.if-is_ended.true)
-
-pub reasoned_at-requires : goal.reasoned_at-requires
-reasoned_at-requires c =
-    let told : c.is_ended.result ≡ ended (record_width c.args.reasons) (length c.args.bytes.now) c.args.at = c.is_ended.ensures ∙ ap (λ (w : ℕ). ended w (length c.args.bytes.now) c.args.at) c.width_of_lem.ensures in
-    let a = c.args in
-    omega (arith, goes_on_lem (record_width a.reasons) (length a.bytes.now) a.at (sym told ∙ c.if-is_ended.false))
+returns-then-is_ended c = grind (arith, common_steps)
 
 pub returns : goal.returns
 unfolding any_step
-returns c =
-    let told : c.is_ended.result ≡ ended (record_width c.args.reasons) (length c.args.bytes.now) c.args.at = c.is_ended.ensures ∙ ap (λ (w : ℕ). ended w (length c.args.bytes.now) c.args.at) c.width_of_lem.ensures in
-    rw (sym told ∙ c.if-is_ended.false, c.reasoned_at.ensures)
+returns c = grind (arith, common_steps)

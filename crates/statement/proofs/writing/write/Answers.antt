@@ -1,10 +1,7 @@
 -- A refused check leaves the buffer as it stood; what passed has room for its file. Assumes nothing.
-use mathlib.Core.Path.{◌≡◌, refl, sym, ◌∙◌, ap, ap₂}
-use native.Mathlib.Omega.{arith}
-use borrow.Author.Rules.{rules}
+use mathlib.Core.Path.{sym, ◌∙◌}
 use mathlib.Core.Bool.{false}
-use mathlib.Core.List.{[]}
-use Prim.Native.Nat.{ℕ, ◌+◌}
+use Prim.Native.Nat.{◌+◌}
 use lib.ListN.{length}
 use Rattle.statement.specs.Files.{file_bytes, file_size}
 use Rattle.statement.specs.Writing.{write_rows, payout, write_said}

@@ -1,9 +1,7 @@
 -- A refused check leaves the buffer as it stood; what passed has room for its file. Assumes nothing.
-use mathlib.Core.Path.{◌≡◌, refl, sym, ◌∙◌, ap, ap₂}
-use native.Mathlib.Omega.{arith}
-use borrow.Author.Rules.{rules}
+use mathlib.Core.Path.{sym, ◌∙◌}
 use mathlib.Core.Bool.{true}
-use Prim.Native.Nat.{ℕ, ◌+◌}
+use Prim.Native.Nat.{◌+◌}
 use lib.ListN.{length}
 use Rattle.statement.specs.Files.{file_of, file_size}
 use Rattle.statement.specs.Writing.{reasons_rows, payout_with, reasons_said}

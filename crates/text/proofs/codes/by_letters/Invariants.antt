@@ -1,13 +1,9 @@
 -- The number is the same from every line that the loop came to: no line before it has the code. Assumes nothing.
-use mathlib.Core.Path.{◌≡◌, refl, sym, ◌∙◌, ap}
+use mathlib.Core.Path.{◌≡◌}
 use Prim.Native.Nat.{suc, ◌-◌, ◌≤◌}
-use native.Mathlib.Omega.{arith}
-use borrow.Author.Rules.{rules}
-use lib.ListN.{get_or, drop}
-use Rattle.currency.specs.declared.Line.{Line}
-use Rattle.currency.specs.Table.{none, currencies, line_of, last_currency}
-use Rattle.text.specs.Codes.{has_code, number_from, number_of}
-use Rattle.text.proofs.ByCode.{scan_on, scan_ends, scan_out}
+use lib.ListN.{drop}
+use Rattle.currency.specs.Table.{currencies, last_currency}
+use Rattle.text.specs.Codes.{number_from, number_of}
 use Rattle.text.proofs.codes.by_letters.Given as goal
 
 abbrev pub invariant-loop-i : goal.invariant-loop-i

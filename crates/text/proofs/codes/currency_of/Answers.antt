@@ -4,7 +4,6 @@ use Prim.Native.Nat.{ℕ}
 use borrow.Author.Tests.{eq-eqb, ne_eqb}
 use lib.ListN.{length}
 use Rattle.text.specs.Codes.{currency_of}
-use borrow.Author.Rules.{rules}
 use Rattle.text.proofs.codes.currency_of.Goals as goal
 
 pub returns-then-code-ne3 : goal.returns-then-code-ne3

@@ -3,7 +3,6 @@ use mathlib.Core.Path.{ap}
 use Prim.Native.Nat.{ℕ, ◌+◌}
 use native.Mathlib.Omega.{arith}
 use Rattle.text.proofs.AtPlace.{no_scale, no_place, placed}
-use borrow.Author.Rules.{rules}
 use Rattle.text.proofs.putting.put_text.Goals as goal
 
 pub returns-then-scale-gt-SCALE : goal.returns-then-scale-gt-SCALE
@@ -19,10 +18,7 @@ returns-then-out-at-2 c = let a = c.args in
     let all = no_place a.out.now a.at a.negative a.m a.scale (omega arith) (omega (arith, c.length_of-length.ensures)) in record { out_after = all.0; value = all.1 }
 
 pub returns : goal.returns
-returns c = let l = c in
-    let a = l.args in record {
-      out_after = (placed a.out.now a.at a.negative a.m a.scale (omega arith) (omega (arith, l.length_of-length.ensures)) _ c.put.ensures _
-          (ap (λ (k : ℕ). a.at + k) l.length_of-length.ensures)).0;
-      value = (placed a.out.now a.at a.negative a.m a.scale (omega arith) (omega (arith, l.length_of-length.ensures)) _ c.put.ensures _
-          (ap (λ (k : ℕ). a.at + k) l.length_of-length.ensures)).1;
-    }
+returns c =
+    let a = c.args in
+    let all = placed a.out.now a.at a.negative a.m a.scale (omega arith) (omega (arith, c.length_of-length.ensures)) _ c.put.ensures _ (ap (λ (k : ℕ). a.at + k) c.length_of-length.ensures) in
+    record { out_after = all.0; value = all.1 }

@@ -1,6 +1,5 @@
 -- Each test is its row's. Assumes nothing.
 use mathlib.Core.Path.{◌≡◌, sym, ◌∙◌, ap}
-use mathlib.Core.Logic.{⊎_elim}
 use mathlib.Core.Bool.{Bool, false}
 use native.Mathlib.Omega.{arith}
 use borrow.Author.Tests.{eq-eqb}
@@ -14,8 +13,8 @@ use Rattle.text.specs.Read.{signed_zero, made_said}
 use Rattle.text.proofs.Spelled.{largest_below}
 use Rattle.text.proofs.Accepted.{zero_good}
 use Rattle.text.proofs.Numbers.{over_said, made_said_lem}
-use borrow.Author.Rules.{rules}
 use Rattle.text.proofs.reading.amount_of.Goals as goal
+use Rattle.text.proofs.reading.amount_of.Goals.{then-m-eq0+else-negative, else-m-eq0}
 
 pub returns-then-negative : goal.returns-then-negative
 unfolding made_said
@@ -29,6 +28,9 @@ returns c = let a = c.args in
     let is : to_z w64 (of_z w64 c.signed.result) ≡ signed_of a.negative a.m =
     read_back c.signed.result c.signed.type_inv ∙ c.signed.ensures ∙ held_within a.negative a.m (omega (arith, largest_below, c.if-m-gt-L.false)) in
     let zero : signed_zero a.negative a.m ≡ false =
-    ⊎_elim (λ w. ap (λ (s : Bool). signed_zero s a.m) w.1.left) (λ w. zero_good a.negative a.m (λ e. omega (arith, w.left))) c.if-m-eq0.branch in
+    elim c.if-m-eq0.branch [
+      | then-m-eq0+else-negative w ↦ ap (λ (s : Bool). signed_zero s a.m) w.if-negative.false
+      | else-m-eq0 w ↦ zero_good a.negative a.m (λ e. omega (arith, w.if-m-eq0.false))
+    ] in
     ap (λ (z : ℤ). gives (record { currency = a.currency; scale = a.scale; coefficient = z })) is
     ∙ sym (made_said_lem a.currency a.negative a.scale a.m c.if-m-gt-L.false zero)

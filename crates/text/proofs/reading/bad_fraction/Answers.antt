@@ -1,8 +1,7 @@
 -- Each test is one of the definition's. Assumes nothing.
-use mathlib.Core.Path.{◌≡◌, sym, ◌∙◌, ap}
+use mathlib.Core.Path.{sym, ◌∙◌, ap}
 use mathlib.Core.Bool.{Bool, ◌||◌}
-use Prim.Native.Nat.{ℕ, ◌+◌, ◌<◌}
-use borrow.Author.Rules.{rules}
+use Prim.Native.Nat.{ℕ, ◌+◌}
 use borrow.Author.Tests.{le-ltb}
 use lib.Dec.{ltb}
 use lib.ListN.{length}
@@ -22,10 +21,9 @@ returns-then-bad_point c = let a = c.args in
     ∙ ap (λ (p : Bool). p || ltb (digits_end bytes (a.end + 1)) (length bytes)) (sym c.bad_point.ensures ∙ c.if-bad_point.true))
 
 pub returns : goal.returns
-returns c = let e = c in
-    let a = e.args in
+returns c = let a = c.args in
     let bytes = a.bytes.now in
     ap (λ (k : ℕ). ltb k (length bytes)) c.digits_end.ensures
     ∙ sym
-    (fraction_tests bytes a.end e.if-bytes-end.false
-    ∙ ap (λ (p : Bool). p || ltb (digits_end bytes (a.end + 1)) (length bytes)) (sym e.bad_point.ensures ∙ e.if-bad_point.false))
+    (fraction_tests bytes a.end c.if-bytes-end.false
+    ∙ ap (λ (p : Bool). p || ltb (digits_end bytes (a.end + 1)) (length bytes)) (sym c.bad_point.ensures ∙ c.if-bad_point.false))

@@ -5,7 +5,6 @@ use borrow.Author.Tests.{lt-ltb, le-ltb}
 use lib.Dec.{ltb}
 use lib.ListN.{length}
 use Rattle.text.specs.Read.{bad_whole, bad_fraction, bad_shape}
-use borrow.Author.Rules.{rules}
 use Rattle.text.proofs.reading.bad_shape.Goals as goal
 
 over : (x r : Bool) → x ≡ true → true ≡ (x || r)

@@ -1,11 +1,9 @@
 -- The end of the digits is the same from every place that the loop came to: it passed only digits. Assumes nothing.
-use mathlib.Core.Path.{◌≡◌, refl, sym, ◌∙◌}
+use mathlib.Core.Path.{◌≡◌}
 use Prim.Native.Nat.{◌-◌}
-use borrow.Author.Rules.{rules}
 use lib.ListN.{length}
 use Rattle.lines.specs.Lines.{is_digit}
-use Rattle.lines.proofs.Scans.{digit, below_digits, above_digits}
-use Rattle.lines.proofs.Spans.{ends, on, ended, out}
+use Rattle.lines.proofs.Spans.{ends}
 use Rattle.text.proofs.reading.digits_end.Given as goal
 
 abbrev pub invariant-loop-i : goal.invariant-loop-i

@@ -1,16 +1,11 @@
 -- The loop's invariant: the digits end where they end from the place that the loop came to, and what they make is what those that are left make behind the number
 -- so far, which has at most as many digits as bytes were passed. Assumes nothing.
-use mathlib.Core.Path.{◌≡◌, refl, sym, ◌∙◌}
-use Prim.Native.Nat.{ℕ, ◌+◌, ◌-◌, ◌*◌, ◌^◌, ◌≤◌, ◌<◌}
-use native.Mathlib.Nat.{pow-le-pow_right}
-use native.Mathlib.Omega.{arith}
-use borrow.Author.Rules.{rules}
-use lib.ListN.{length, get_or}
+use mathlib.Core.Path.{◌≡◌}
+use Prim.Native.Nat.{◌-◌, ◌^◌, ◌≤◌, ◌<◌}
+use lib.ListN.{length}
 use Rattle.lines.specs.Lines.{is_digit, worth}
-use Rattle.lines.proofs.Scans.{digit, below_digits, above_digits}
-use Rattle.lines.proofs.Spans.{ends, on, ended, out}
+use Rattle.lines.proofs.Spans.{ends}
 use Rattle.text.specs.Scan.{digits_from}
-use Rattle.text.proofs.Pass.{goes_on_lem, stops, runs_out, grows}
 use Rattle.text.proofs.reading.scan.Given as goal
 
 abbrev pub invariant-loop-i : goal.invariant-loop-i

@@ -3,60 +3,49 @@ use mathlib.Core.Path.{◌≡◌, sym, ◌∙◌, ap, ap₂, subst}
 use mathlib.Core.Bool.{Bool}
 use mathlib.Core.List.{List}
 use Prim.Native.Nat.{ℕ}
+use lib.IntN.{ℤ}
 use lib.ListN.{length}
 use mir.Syntax.{w64}
-use mir.Val.{SFits}
+use mir.Val.{SFits, to_z, of_z}
 use mir.ValLaws.{to_z-of_z}
 use Rattle.refusal.specs.Rows.{Said, check_of}
+use Rattle.refusal.specs.declared.Checked.{Checked}
+use Rattle.amount.specs.declared.Amount.{Amount}
 use Rattle.whole.specs.Whole.{negative, magnitude_of}
 use Rattle.amount.specs.Amounts.{amount_rows}
 use Rattle.text.specs.Written.{spelled, text_of, room_said, Writes}
-use Rattle.text.proofs.Placed.{passed_said, passed_scale, refused_writes}
+use Rattle.text.proofs.Placed.{passed_said, refused_writes}
 use borrow.Author.Rules.{rules}
 use Rattle.text.proofs.writing.write.Goals as goal
 
-pub write_text-requires : goal.write_text-requires
-write_text-requires c =
-    let asked : (c.is_negative-negative.result ≡ negative c.args.amount.coefficient) × (c.magnitude-m.result ≡ magnitude_of c.args.amount.coefficient) =
-    let z = c.args.amount.coefficient in
-    let held : SFits w64 z = search rules in
-    (c.is_negative-negative.ensures ∙ ap negative (to_z-of_z w64 z held), c.magnitude-m.ensures ∙ ap magnitude_of (to_z-of_z w64 z held)) in
-    let checked : let a = c.args.amount in c.check_one.result ≡ check_of (amount_rows a.scale (magnitude_of a.coefficient) a.currency) =
-    let a = c.args.amount in
-    c.check_one.ensures ∙ ap (λ (m : ℕ). check_of (amount_rows a.scale m a.currency)) asked.1 in
-    let k = c in
-    let a = k.args in
-    passed_scale a.amount a.out.now (sym checked ∙ c.in-Passed.is)
+-- the sign and the magnitude that were asked for are the coefficient's
+module _ (z : ℤ) (held : SFits w64 z) where
+  sign_is : (s : Bool) → s ≡ negative (to_z w64 (of_z w64 z)) → s ≡ negative z
+  sign_is s e = e ∙ ap negative (to_z-of_z w64 z held)
+
+  magnitude_is : (m : ℕ) → m ≡ magnitude_of (to_z w64 (of_z w64 z)) → m ≡ magnitude_of z
+  magnitude_is m e = e ∙ ap magnitude_of (to_z-of_z w64 z held)
+
+-- and so is what the check answered
+checked
+    : (a : Amount) (m : ℕ) (r : Checked) → m ≡ magnitude_of a.coefficient → r ≡ check_of (amount_rows a.scale m a.currency)
+    → check_of (amount_rows a.scale (magnitude_of a.coefficient) a.currency) ≡ r
+checked a m r e f = sym (f ∙ ap (λ (k : ℕ). check_of (amount_rows a.scale k a.currency)) e)
 
 pub returns-in-Refused : goal.returns-in-Refused
 returns-in-Refused c =
-    let asked : (c.is_negative-negative.result ≡ negative c.args.amount.coefficient) × (c.magnitude-m.result ≡ magnitude_of c.args.amount.coefficient) =
-    let z = c.args.amount.coefficient in
-    let held : SFits w64 z = search rules in
-    (c.is_negative-negative.ensures ∙ ap negative (to_z-of_z w64 z held), c.magnitude-m.ensures ∙ ap magnitude_of (to_z-of_z w64 z held)) in
-    let checked : let a = c.args.amount in c.check_one.result ≡ check_of (amount_rows a.scale (magnitude_of a.coefficient) a.currency) =
     let a = c.args.amount in
-    c.check_one.ensures ∙ ap (λ (m : ℕ). check_of (amount_rows a.scale m a.currency)) asked.1 in
-    let k = c in
-    let a = k.args in
-    refused_writes a.amount a.out.now c.in-Refused.refusal (sym checked ∙ c.in-Refused.is)
+    let m = magnitude_is a.coefficient (search rules) _ c.magnitude-m.ensures in
+    refused_writes a c.args.out.now c.in-Refused.refusal (checked a _ _ m c.check_one.ensures ∙ c.in-Refused.is)
 
 pub returns-in-Passed : goal.returns-in-Passed
 returns-in-Passed c =
-    let asked : (c.is_negative-negative.result ≡ negative c.args.amount.coefficient) × (c.magnitude-m.result ≡ magnitude_of c.args.amount.coefficient) =
-    let z = c.args.amount.coefficient in
-    let held : SFits w64 z = search rules in
-    (c.is_negative-negative.ensures ∙ ap negative (to_z-of_z w64 z held), c.magnitude-m.ensures ∙ ap magnitude_of (to_z-of_z w64 z held)) in
-    let checked : let a = c.args.amount in c.check_one.result ≡ check_of (amount_rows a.scale (magnitude_of a.coefficient) a.currency) =
     let a = c.args.amount in
-    c.check_one.ensures ∙ ap (λ (m : ℕ). check_of (amount_rows a.scale m a.currency)) asked.1 in
+    let out = c.args.out.now in
     let w = c.write_text in
-    let k = c in
-    let a = k.args in
-    let out = a.out.now in
-    let after = w.new.out in
-    let same : spelled k.is_negative-negative.result k.magnitude-m.result a.amount.scale ≡ text_of a.amount =
-    ap₂ (λ (s : Bool) (m : ℕ). spelled s m a.amount.scale) asked.0 asked.1 in
-    subst (λ (said : Said ℕ). Writes (text_of a.amount) said out w.result after)
-    (sym (passed_said a.amount out (sym checked ∙ c.in-Passed.is)))
-    (subst (λ (text : List ℕ). Writes text (room_said text (length out)) out w.result after) same w.ensures)
+    let s = sign_is a.coefficient (search rules) _ c.is_negative-negative.ensures in
+    let m = magnitude_is a.coefficient (search rules) _ c.magnitude-m.ensures in
+    let same : spelled c.is_negative-negative.result c.magnitude-m.result a.scale ≡ text_of a = ap₂ (λ (s : Bool) (m : ℕ). spelled s m a.scale) s m in
+    subst (λ (said : Said ℕ). Writes (text_of a) said out w.result w.new.out)
+    (sym (passed_said a out (checked a _ _ m c.check_one.ensures ∙ c.in-Passed.is)))
+    (subst (λ (text : List ℕ). Writes text (room_said text (length out)) out w.result w.new.out) same w.ensures)

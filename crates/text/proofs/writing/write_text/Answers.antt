@@ -5,7 +5,6 @@ use native.Mathlib.Omega.{arith}
 use Rattle.refusal.specs.declared.Checked.TheVariants.{Passed}
 use Rattle.text.specs.Written.{spelled}
 use Rattle.text.proofs.Placed.{written, not_written}
-use borrow.Author.Rules.{rules}
 use Rattle.text.proofs.writing.write_text.Goals as goal
 
 pub returns-then-out-length : goal.returns-then-out-length
@@ -13,7 +12,6 @@ returns-then-out-length c = let a = c.args in
     not_written (spelled a.negative a.m a.scale) a.out.now (omega (arith, c.length_of-length.ensures, c.if-out-length.true)) _ refl
 
 pub returns : goal.returns
-returns c = let l = c in
-    let a = l.args in
-    written (spelled a.negative a.m a.scale) a.out.now (omega (arith, l.length_of-length.ensures, c.if-out-length.false)) _ c.put.new.out
-    (ap (λ (n : ℕ). record { outcome = Passed; length = n }) l.length_of-length.ensures) c.put.ensures
+returns c = let a = c.args in
+    written (spelled a.negative a.m a.scale) a.out.now (omega (arith, c.length_of-length.ensures, c.if-out-length.false)) _ c.put.new.out
+    (ap (λ (n : ℕ). record { outcome = Passed; length = n }) c.length_of-length.ensures) c.put.ensures
