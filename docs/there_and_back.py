@@ -1,6 +1,6 @@
 """Writes there-and-back.md: for each old unit, what becomes of a euro amount that goes there and comes back.
 
-The two cases are those of `there-and-back` and `comes-back` in crates/euro/proofs/ThereAndBack.antt: where 10^(2 + k) is less than
+The two cases are those of `there_and_back` and `comes_back` in crates/euro/proofs/ThereAndBack.antt: where 10^(2 + k) is less than
 K x 10^s the amount comes back unchanged, else it changes by at most (K x 10^s + 10^(2 + k)) / (2 x K x 10^s) cents. The amounts are
 found with the second program. Run it to write the table beside it; with --check it says whether the table is the one it would write.
 """
@@ -18,7 +18,7 @@ TABLE = HERE / "there-and-back.md"
 HEADING = """# There and back
 
 Written by `python3 docs/there_and_back.py`. A euro amount is converted to an old unit and back. Where 10^(2 + k) is less than K x 10^s the amount
-comes back unchanged (`comes-back`); else the change in cents is at most (K x 10^s + 10^(2 + k)) / (2 x K x 10^s) (`there-and-back` in
+comes back unchanged (`comes_back`); else the change in cents is at most (K x 10^s + 10^(2 + k)) / (2 x K x 10^s) (`there_and_back` in
 `crates/euro/proofs/ThereAndBack.antt`). The last columns have the smallest amount that moves, as the desk's `convert` lines.
 
 | No | Code | K x 10^s | 10^(2 + k) | Comes back | Smallest that moves | There | Back |
