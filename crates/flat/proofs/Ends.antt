@@ -6,7 +6,6 @@ use Rattle.refusal.specs.declared.Checked.TheVariants.{Passed, Refused}
 use Rattle.refusal.specs.Rows.{Said, means_outcome}
 use Rattle.statement.specs.declared.Written.{Written}
 use Rattle.statement.specs.Writing.{end_in}
-use Rattle.flat.specs.declared.MkbEnd.{MkbEnd}
 use Rattle.flat.specs.Statements.{end_of, end_flat}
 
 same : (o : Checked) (end : ℕ) → end ≡ end_in (means_outcome o end) → end_flat (record { outcome = o; end = end }) ≡ end_of (means_outcome o end)

@@ -1,12 +1,11 @@
 -- The number that C reads is 0 exactly where the call is accepted: no refusal has the number 0. Assumes nothing.
-use mathlib.Core.Path.{◌≡◌, refl, sym, ◌∙◌, ap}
+use mathlib.Core.Path.{◌≡◌, refl, ap}
 use mathlib.Core.Bool.{true, false}
 use mathlib.Core.List.{List, [], ◌∷◌}
 use mathlib.Core.Logic.{◌↔◌}
-use Prim.Native.Nat.{ℕ}
 use native.Mathlib.Omega.{arith}
 use Rattle.refusal.specs.Number.{number_of}
-use Rattle.refusal.specs.Rows.{Said, gives, refuses, Row, row, first_row}
+use Rattle.refusal.specs.Rows.{Said, gives, Row, row, first_row}
 use Rattle.refusal.specs.declared.Refusal.{Refusal}
 use Rattle.refusal.specs.declared.Refusal.TheVariants.{Mode, Scale, Magnitude, Unknown, Differ, Rate, Date, Days, Weights, Negative, Room, Refund, Limit, Malformed, NoNet, NoNumber, Newer}
 use Rattle.flat.specs.Answers.{refusal_of}

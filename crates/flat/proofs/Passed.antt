@@ -1,8 +1,8 @@
 -- What is passed on of a number, for any largest value: the number where the type holds it, else the largest. So what is passed on stays within
 -- a limit below the largest value only where it is the number that was given: no number past a limit is taken for one within it. Assumes nothing.
-use mathlib.Core.Path.{◌≡◌, refl, sym, ap}
+use mathlib.Core.Path.{◌≡◌, refl, ap}
 use mathlib.Core.Bool.{true, false}
-use Prim.Native.Nat.{ℕ, ◌≤◌, ◌<◌, ◌^◌, min}
+use Prim.Native.Nat.{ℕ, ◌≤◌, ◌<◌, ◌^◌}
 use native.Mathlib.Omega.{arith}
 use lib.IntN.{ℤ, pos, negsuc}
 use Rattle.whole.specs.Whole.{negative, magnitude_of}

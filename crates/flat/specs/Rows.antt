@@ -1,5 +1,5 @@
 -- A row of doubles as C gives it, and what C is answered for one and for an export. Cited by `mkb_row` and `mkb_export`. Assumes nothing.
-use Rattle.std.specs.Prelude.{ℕ, false, pos, Float}
+use Rattle.std.specs.Prelude.{false, pos, Float}
 use Rattle.std.specs.Float.{fin}
 use Rattle.refusal.specs.Rows.{Said, gives, refuses}
 use Rattle.doubles.specs.declared.Row.{Row}
