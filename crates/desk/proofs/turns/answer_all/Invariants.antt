@@ -1,7 +1,5 @@
 -- The buffers keep their lengths, and the turns that are left fall. Assumes nothing.
-use mathlib.Core.Path.{◌≡◌}
-use lib.ListN.{length}
-use borrow.Author.Rules.{rules}
+use Rattle.std.proofs.Common.{◌≡◌, length}
 use Rattle.desk.proofs.turns.answer_all.Given as goal
 
 abbrev pub invariant-loop-desk : goal.invariant-loop-desk

@@ -1,7 +1,5 @@
 -- The buffer keeps its length, and the turns that are left fall. Assumes nothing.
-use mathlib.Core.Path.{◌≡◌}
-use lib.ListN.{length}
-use borrow.Author.Rules.{rules}
+use Rattle.std.proofs.Common.{◌≡◌, length}
 use Rattle.desk.proofs.turns.plain_lines.Given as goal
 
 abbrev pub invariant-loop-standing : goal.invariant-loop-standing

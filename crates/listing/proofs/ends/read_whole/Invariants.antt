@@ -1,5 +1,5 @@
 -- The buffer keeps its length, and what is left to read falls. Assumes nothing.
-use Rattle.std.proofs.Common.{◌≡◌, ◌-◌, ◌≤◌, length, rules}
+use Rattle.std.proofs.Common.{◌≡◌, ◌-◌, ◌≤◌, length}
 use Rattle.listing.proofs.ends.read_whole.Given as goal
 
 abbrev pub invariant-loop-done : goal.invariant-loop-done

@@ -1,5 +1,5 @@
 -- The buffer keeps its length, and the records are counted. Assumes nothing.
-use Rattle.std.proofs.Common.{◌≡◌, ◌-◌, ◌≤◌, length, rules}
+use Rattle.std.proofs.Common.{◌≡◌, ◌-◌, ◌≤◌, length}
 use Rattle.listing.proofs.outs.put_records.Given as goal
 
 abbrev pub invariant-loop-i : goal.invariant-loop-i

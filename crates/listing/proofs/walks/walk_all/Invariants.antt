@@ -1,5 +1,5 @@
 -- The buffers keep their lengths, and the turns that are left fall. Assumes nothing.
-use Rattle.std.proofs.Common.{◌≡◌, length, rules}
+use Rattle.std.proofs.Common.{◌≡◌, length}
 use Rattle.listing.proofs.walks.walk_all.Given as goal
 
 abbrev pub invariant-loop-buffer : goal.invariant-loop-buffer

@@ -1,5 +1,5 @@
 -- The buffers keep their lengths, and the turns that are left fall. Assumes nothing.
-use Rattle.std.proofs.Common.{◌≡◌, length, arith, rules}
+use Rattle.std.proofs.Common.{◌≡◌, length}
 use Rattle.rerun.proofs.turns.run_all.Given as goal
 
 abbrev pub invariant-loop-refunds : goal.invariant-loop-refunds
