@@ -1,2 +1,2 @@
-pub mod Same
+pub mod SameBytes
 pub mod Words

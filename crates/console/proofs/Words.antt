@@ -1,9 +1,7 @@
 -- Each of the programs' words is its verb; a word with a letter more, one in capitals and an empty one are none. Assumes nothing.
 use mathlib.Core.Path.{◌≡◌, refl}
-use mathlib.Core.List.{List, [], ◌∷◌}
-use Prim.Native.Nat.{ℕ}
+use mathlib.Core.List.{[], ◌∷◌}
 use Rattle.console.specs.Verbs.{same_bytes, verb_of}
-use Rattle.console.specs.declared.Verb.{Verb}
 use Rattle.console.specs.declared.Verb.TheVariants.{Open, Post, Refund, Unknown}
 
 pub post_is : verb_of (112 ∷ 111 ∷ 115 ∷ 116 ∷ []) ≡ Post

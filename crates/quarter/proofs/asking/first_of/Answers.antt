@@ -1,6 +1,6 @@
 -- Each comparison says whether the word is the one that it is compared with. Assumes nothing.
 use mathlib.Core.Path.{◌∙◌}
-use Rattle.console.proofs.Same.{told}
+use Rattle.console.proofs.SameBytes.{told}
 use borrow.Author.Rules.{rules}
 use Rattle.quarter.proofs.asking.first_of.Goals as goal
 
