@@ -3,7 +3,7 @@ use Rattle.std.proofs.Common.{◌≡◌, length}
 use Rattle.desk.proofs.turns.answer_all.Given as goal
 
 abbrev pub invariant-loop-desk : goal.invariant-loop-desk
-invariant-loop-desk l = (length l.text ≡ length l.initial.text) × (length l.out ≡ length l.initial.out)
+invariant-loop-desk g l = (length l.text ≡ length l.initial.text) × (length l.out ≡ length l.initial.out)
 
 abbrev pub decreases-loop-desk : goal.decreases-loop-desk
-decreases-loop-desk l = l.turns
+decreases-loop-desk g l = l.turns

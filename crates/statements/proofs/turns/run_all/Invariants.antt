@@ -3,7 +3,7 @@ use Rattle.std.proofs.Common.{◌≡◌, length}
 use Rattle.statements.proofs.turns.run_all.Given as goal
 
 abbrev pub invariant-loop-text : goal.invariant-loop-text
-invariant-loop-text l = length l.text ≡ 65536
+invariant-loop-text g l = length l.text ≡ 65536
 
 abbrev pub decreases-loop-text : goal.decreases-loop-text
-decreases-loop-text l = l.turns
+decreases-loop-text g l = l.turns
