@@ -1,16 +1,14 @@
 -- The programs' paper, docs/DESK.md, "`rerun`": what a line of a quarter's file asks for. Cited by `asked_of`. Assumes nothing.
 use Rattle.std.specs.Prelude.{Bool, true, false, cond, ◌||◌, List, [], ◌∷◌, ℕ, ltb, leb, eqb, replicate}
 use Rattle.amount.specs.declared.Amount.{Amount}
-use Rattle.lines.specs.declared.Word.{Word}
 use Rattle.intake.specs.declared.Given.{Given}
 use Rattle.intake.specs.declared.Given.TheVariants.{Numbers, Others}
 use Rattle.intake.specs.Numbers.{unsigned_at, amount_at}
 use Rattle.intake.specs.Words.{asks_nothing, next_word, given_of, signs_of, magnitudes_of}
 use Rattle.spoken.specs.declared.Form.{Form}
 use Rattle.spoken.specs.declared.Kind.TheVariants.{Plain, Unit, Money}
-use Rattle.spoken.specs.declared.Spoken.{Spoken}
 use Rattle.spoken.specs.Hearing.{bytes_of}
-use Rattle.spoken.specs.Reading.{Read, read_of, spoken_of}
+use Rattle.spoken.specs.Reading.{read_of, spoken_of}
 use Rattle.console.specs.Verbs.{same_bytes}
 use Rattle.quarter.specs.declared.First.{First}
 use Rattle.quarter.specs.declared.First.TheVariants.{Open, Card, Post, Refund, Other}

@@ -2,15 +2,13 @@
 -- `no_book`. Assumes nothing.
 use Rattle.std.specs.Prelude.{Bool, false, List, [], ℕ, replicate, take}
 use Rattle.refusal.specs.Rows.{Said, gives, refuses}
-use Rattle.currency.specs.declared.Currency.{Currency}
 use Rattle.book.specs.declared.Book.{Book}
 use Rattle.book.specs.Moves.{zero_book, open_said, opened_book}
 use Rattle.intake.specs.declared.Given.{Given}
 use Rattle.intake.specs.declared.Given.TheVariants.{Numbers, Others}
 use Rattle.intake.specs.Numbers.{unsigned_at, listed_count, listed}
 use Rattle.intake.specs.Words.{next_word, given_of, signs_of, magnitudes_of}
-use Rattle.spoken.specs.declared.Spoken.{Spoken}
-use Rattle.spoken.specs.Reading.{Read, read_of, spoken_of}
+use Rattle.spoken.specs.Reading.{read_of, spoken_of}
 use Rattle.quarter.specs.Asking.{form_of}
 use Rattle.quarter.specs.declared.First.TheVariants.{Open}
 use Rattle.quarter.specs.declared.Opening.{Opening}

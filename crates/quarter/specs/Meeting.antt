@@ -1,5 +1,5 @@
 -- The programs' paper, docs/DESK.md: what the bytes that are held begin with. Cited by `read_line`. Assumes nothing.
-use Rattle.std.specs.Prelude.{Bool, cond, List, ℕ, ◌-◌, take, drop}
+use Rattle.std.specs.Prelude.{cond, List, ℕ, ◌-◌, take, drop}
 use Rattle.intake.specs.declared.Cut.{Cut}
 use Rattle.intake.specs.declared.Found.{Found}
 use Rattle.intake.specs.declared.Found.TheVariants.{Line, Long, More, Nothing}

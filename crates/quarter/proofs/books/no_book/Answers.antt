@@ -1,8 +1,8 @@
 -- Every part is 0. Assumes nothing.
-use mathlib.Core.Path.{refl}
+use Rattle.std.proofs.Common.{rules}
 use Rattle.book.specs.Moves.{zero_book}
 use Rattle.quarter.proofs.books.no_book.Goals as goal
 
 pub returns : goal.returns
 unfolding zero_book
-returns c = refl
+returns c = search rules
