@@ -79,6 +79,10 @@ fn read_part(
         return 0;
     }
     match file.read(&mut buffer[from..to]) {
+        Ok(0) => {
+            say(rt, b"read: the file has become shorter\n");
+            0
+        },
         Ok(more) => more,
         Err(error) => {
             say_failed(rt, "read", error);

@@ -4,7 +4,8 @@ use crate::outs::{put_other, put_statement};
 use console::{BUFFER, FAILED, Stream, WELL, Waiting, say_failed, write_out};
 use statement::{FoundAny, check_any};
 use std::fs;
-use std::io::{Read, Result, Seek};
+use std::io::{Error, ErrorKind, Read, Result, Seek};
+use std::os::unix::fs::FileTypeExt;
 use std::rt::Files;
 
 // Some statements at once, so that a file of many small ones is not read many times over.
@@ -123,8 +124,12 @@ fn walk_file(rt: &(impl Print + Eprint), mut file: impl Read + Seek + Drop) -> u
 }
 
 // Standard input once more, as a file that can be read from any place of it. One that can't be read at all is not opened: by its name it could be.
+// Nor is a pipe, which has no places, and whose opening waits for one that writes.
 fn open_again<R: Files>(rt: &R, mut input: impl Read + Drop) -> Result<R::File> {
     input.read(&mut [])?;
+    if fs::metadata(rt, STANDARD)?.file_type().is_fifo() {
+        return Err(Error::from(ErrorKind::NotSeekable));
+    }
     fs::open(rt, STANDARD)
 }
 

@@ -1,8 +1,5 @@
 -- The buffer keeps its length. Assumes nothing.
-use mathlib.Core.Path.{◌≡◌}
-use Prim.Native.Nat.{◌-◌}
-use lib.ListN.{length}
-use borrow.Author.Rules.{rules}
+use Rattle.std.proofs.Common.{◌≡◌, ◌-◌, length}
 use Rattle.desk.proofs.answers.put_places.Given as goal
 
 abbrev pub invariant-loop-i : goal.invariant-loop-i

@@ -1,9 +1,5 @@
 -- The buffer keeps its length. Assumes nothing.
-use mathlib.Core.Path.{◌≡◌}
-use Prim.Native.Nat.{◌-◌}
-use native.Mathlib.Omega.{arith}
-use lib.ListN.{length}
-use borrow.Author.Rules.{rules}
+use Rattle.std.proofs.Common.{◌≡◌, ◌-◌, length}
 use Rattle.desk.proofs.lists.put_held.Given as goal
 
 abbrev pub invariant-loop-i : goal.invariant-loop-i

@@ -1,7 +1,5 @@
 -- The buffer keeps its length, and what may be left falls. Assumes nothing.
-use mathlib.Core.Path.{◌≡◌}
-use lib.ListN.{length}
-use borrow.Author.Rules.{rules}
+use Rattle.std.proofs.Common.{◌≡◌, length}
 use Rattle.desk.proofs.reasons.put_all.Given as goal
 
 abbrev pub invariant-loop-left : goal.invariant-loop-left

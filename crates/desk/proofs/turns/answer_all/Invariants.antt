@@ -1,11 +1,9 @@
 -- The buffers keep their lengths, and the turns that are left fall. Assumes nothing.
-use mathlib.Core.Path.{◌≡◌}
-use lib.ListN.{length}
-use borrow.Author.Rules.{rules}
+use Rattle.std.proofs.Common.{◌≡◌, length}
 use Rattle.desk.proofs.turns.answer_all.Given as goal
 
 abbrev pub invariant-loop-desk : goal.invariant-loop-desk
-invariant-loop-desk l = (length l.text ≡ length l.initial.text) × (length l.out ≡ length l.initial.out)
+invariant-loop-desk g l = (length l.text ≡ length l.initial.text) × (length l.out ≡ length l.initial.out)
 
 abbrev pub decreases-loop-desk : goal.decreases-loop-desk
-decreases-loop-desk l = l.turns
+decreases-loop-desk g l = l.turns

@@ -1,11 +1,9 @@
 -- The buffer keeps its length, and the turns that are left fall. Assumes nothing.
-use mathlib.Core.Path.{◌≡◌}
-use lib.ListN.{length}
-use borrow.Author.Rules.{rules}
+use Rattle.std.proofs.Common.{◌≡◌, length}
 use Rattle.desk.proofs.turns.plain_lines.Given as goal
 
 abbrev pub invariant-loop-standing : goal.invariant-loop-standing
-invariant-loop-standing l = length l.out ≡ length l.initial.out
+invariant-loop-standing g l = length l.out ≡ length l.initial.out
 
 abbrev pub decreases-loop-standing : goal.decreases-loop-standing
-decreases-loop-standing l = l.turns
+decreases-loop-standing g l = l.turns

@@ -1,5 +1,5 @@
 -- The lists keep their lengths, and the lines of a stretch are counted. Assumes nothing.
-use Rattle.std.proofs.Common.{◌≡◌, ◌-◌, ◌≤◌, length, rules}
+use Rattle.std.proofs.Common.{◌≡◌, ◌-◌, ◌≤◌, length}
 use Rattle.rerun.proofs.gathering.gather.Given as goal
 
 abbrev pub invariant-loop-i : goal.invariant-loop-i

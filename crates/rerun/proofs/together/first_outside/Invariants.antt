@@ -1,5 +1,5 @@
 -- Every place is within the lists. Assumes nothing.
-use Rattle.std.proofs.Common.{◌-◌, ◌≤◌, rules}
+use Rattle.std.proofs.Common.{◌-◌, ◌≤◌}
 use Rattle.rerun.proofs.together.first_outside.Given as goal
 
 abbrev pub invariant-loop-i : goal.invariant-loop-i

@@ -1,5 +1,5 @@
 -- The buffer keeps its length. Assumes nothing.
-use Rattle.std.proofs.Common.{◌≡◌, ◌-◌, length, rules}
+use Rattle.std.proofs.Common.{◌≡◌, ◌-◌, length}
 use Rattle.rerun.proofs.together.put_sums.Given as goal
 
 abbrev pub invariant-loop-i : goal.invariant-loop-i

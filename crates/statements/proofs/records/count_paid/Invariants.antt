@@ -1,6 +1,5 @@
 -- No more are counted than were looked at. Assumes nothing.
-use Prim.Native.Nat.{◌-◌, ◌≤◌}
-use borrow.Author.Rules.{rules}
+use Rattle.std.proofs.Common.{◌-◌, ◌≤◌}
 use Rattle.statements.proofs.records.count_paid.Given as goal
 
 abbrev pub invariant-loop-i : goal.invariant-loop-i

@@ -1,11 +1,9 @@
--- The buffer and the lists keep their lengths, and the turns that are left fall. Assumes nothing.
-use mathlib.Core.Path.{◌≡◌}
-use lib.ListN.{length}
-use borrow.Author.Rules.{rules}
+-- The buffer keeps its length, and the turns that are left fall. Assumes nothing.
+use Rattle.std.proofs.Common.{◌≡◌, length}
 use Rattle.statements.proofs.turns.run_all.Given as goal
 
 abbrev pub invariant-loop-text : goal.invariant-loop-text
-invariant-loop-text l = (length l.reader ≡ 65536) × (length l.writer ≡ 4000) × (length l.text ≡ 4000) × (length l.records ≡ 4000)
+invariant-loop-text g l = length l.text ≡ 65536
 
 abbrev pub decreases-loop-text : goal.decreases-loop-text
-decreases-loop-text l = l.turns
+decreases-loop-text g l = l.turns
