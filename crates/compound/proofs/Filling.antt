@@ -33,13 +33,6 @@ module _ (p r : ℕ) (before after : List ℕ) where
         put = λ e. let z : ◌≡◌ {A = ℕ} 0 1 = cc in absurd (omega arith);
       }
 
-  pub fills_all : (i : ℕ) → i ≡ length before → any_over p r i ≡ false → after ≡ filled 0 (balance_at p r) i before → Fills p r before Passed after
-  fills_all i all none put =
-      record {
-        said = rw (ap (any_over p r) (sym all) ∙ none);
-        put = λ e. put ∙ ap (λ (n : ℕ). filled 0 (balance_at p r) n before) all;
-      }
-
   module _ (checked : Checked) (fills : Fills p r before checked after) where
     -- where a row is over L the output stays
     pub writes_not : (out : List ℤ) (x : Refusal) → checked ≡ Refused x → Writes p r (length before) out (Refused x) out

@@ -6,7 +6,7 @@ use Prim.Native.Nat.{ℕ, suc, ◌*◌, ◌^◌, ◌<◌, ◌≤◌}
 use native.Mathlib.Nat.{mul-pos, pow-le-pow_right}
 use native.Mathlib.Omega.{arith}
 use borrow.Author.Tests.{ne_eqb}
-use lib.Dec.{T, le→leb, lt→ltb}
+use lib.Dec.{T, le→leb}
 use lib.IntN.{ℤ, pos, negsuc}
 use lib.Ieee.{Float, nan, inf, fin, binary64, up, down, unlike, round, of_int, in_float, div}
 use lib.Ieee.Fits.{down_pos}
@@ -70,12 +70,7 @@ module _ (n : ℤ) (h : magnitude_of n ≤ largest) where
       subst (λ (x : Float). HasValue x (negative n) (magnitude_of n) 1) (sym (divided_once 0 (omega arith)))
       (round_whole binary64 (negative n) (magnitude_of n) (omega (arith, few)))
 
--- what the two casts ask
-pub coefficient_in : (n : ℤ) → magnitude_of n ≤ largest → T (in_float binary64 n)
-unfolding in_float
-coefficient_in (pos n) h = le→leb n (2 ^ 53) (omega (arith, few))
-coefficient_in (negsuc n) h = lt→ltb n (2 ^ 53) (omega (arith, few))
-
+-- what the cast of the divisor asks
 pub divisor_in : (p : ℕ) → p ≤ 1000 → T (in_float binary64 (pos p))
 unfolding in_float
 divisor_in p h = le→leb p (2 ^ 53) (omega arith)

@@ -4,7 +4,6 @@ use mathlib.Core.Path.{◌≡◌, refl, sym, ◌∙◌, ap}
 use mathlib.Core.Bool.{Bool, true, false, cond}
 use mathlib.Core.List.{[], ◌∷◌}
 use Prim.Native.Nat.{ℕ, ◌≤◌}
-use native.Mathlib.Omega.{arith}
 use borrow.Author.Tests.{le-ltb, eqb-true}
 use lib.IntN.{ℤ}
 use Rattle.refusal.specs.Rows.{Said, row, first_row}
@@ -16,7 +15,7 @@ use Rattle.currency.specs.Table.{line_of, same}
 use Rattle.currency.specs.Names.{EUR}
 use Rattle.amount.specs.declared.Amount.{Amount}
 use Rattle.amount.specs.Amounts.{largest, over_l}
-use Rattle.euro.specs.Steps.{to_euro, from_euro, cents, most_decimals}
+use Rattle.euro.specs.Steps.{to_euro, from_euro, cents}
 use Rattle.euro.specs.Conversion.{settled, exchanged}
 use Rattle.euro.specs.Through.{decimals_of, into_euro, out_of_euro}
 use Rattle.euro.proofs.Magnitudes.{to_euro_sign, from_euro_sign}
@@ -24,14 +23,6 @@ use Rattle.euro.proofs.Magnitudes.{to_euro_sign, from_euro_sign}
 -- what follows the number in euro
 abbrev pub onward : (decimals : ℕ) → Currency → ℤ → Said Amount
 onward decimals to step = first_row (row Limit (over_l (magnitude_of step)) ∷ []) (settled to (out_of_euro decimals to step))
-
-pub few_decimals : (decimals : ℕ) (from to : Currency) → decimals ≤ most_decimals → decimals_of decimals from to ≤ most_decimals
-few_decimals decimals from to h = by (same from EUR) (same to EUR)
-  where
-    by : (s t : Bool) → cond s cents (cond t cents decimals) ≤ most_decimals
-    by true t = omega arith
-    by false true = omega arith
-    by false false = h
 
 -- row 13 asked once more
 twice : (to : Currency) (z : ℤ) → first_row (row Limit (over_l (magnitude_of z)) ∷ []) (settled to z) ≡ settled to z
