@@ -62,6 +62,7 @@ fn line_of(text: &[u8], at: Intake, end: usize, next: usize, unended: bool) -> C
 }
 
 // The input's last line, which has no newline; or nothing, where there is no line.
+#[tactic(auto, using(crate::proofs::Ways::last_skipped, crate::proofs::Ways::last_line, crate::proofs::Ways::no_line))]
 fn last_of(text: &[u8], at: Intake) -> Cut
     requires { at.from ≤ length text.now }
     ensures { result ≡ last_of text.now at }

@@ -15,6 +15,7 @@ use refusal::{Checked, Refusal};
 use whole::{is_negative, magnitude, signed};
 
 // The rows behind row 1: the factors' magnitudes, the divisor and the rounded quotient's magnitude against 10^18.
+#[tactic(auto, unfolding(crate::specs::Plain::plain_rows))]
 fn check(a: u64, b: u64, d: u64, quotient: u64) -> Checked
     ensures { result ≡ check_of (plain_rows a b d quotient) }
 {

@@ -39,6 +39,7 @@ fn divide(m: u64, weights: &[u32], shares: &mut [u64], rests: &mut [u64]) -> u64
 }
 
 // The place of the largest remainder, ties to the lower place.
+#[tactic(auto, using(remainder::proofs::Largest::scan_start, remainder::proofs::Largest::scan_larger, remainder::proofs::Largest::scan_past))]
 fn largest_place(rests: &[u64]) -> usize
     requires { 1 ≤ length rests.now }
     ensures { result ≡ largest rests.now (length rests.now) }
