@@ -73,18 +73,18 @@ unfolding filled
 fill_end out at zero n h = refl
 fill_end out at (suc i) n h = absurd (omega arith)
 
-Filled-is
+filled_is
     : (out : List ℕ) (at count n : ℕ) → at + count ≤ length out
     → filled out at count n ≡ take at out ++ (last_digits count n ++ drop (at + count) out)
 unfolding filled last_digits
-Filled-is out at zero n h = rw (add-zero at) (sym (take-append-drop at out))
-Filled-is out at (suc count) n h =
+filled_is out at zero n h = rw (add-zero at) (sym (take-append-drop at out))
+filled_is out at (suc count) n h =
     let next : List ℕ = set out (at + count) (48 + n % 10) in
     let inside : at + count < length out = omega arith in
     let rest : drop (at + count) next ≡ (48 + n % 10) ∷ drop (suc (at + count)) out =
     drop-cons next (at + count) 0 (omega (arith, length-set out (at + count) (48 + n % 10)))
     ∙ rw (get_or-set_same out (at + count) (48 + n % 10) 0 inside, drop-set-lt (suc (at + count)) out (at + count) (48 + n % 10) (omega arith)) in
-    Filled-is next at count (n / 10) (omega (arith, length-set out (at + count) (48 + n % 10)))
+    filled_is next at count (n / 10) (omega (arith, length-set out (at + count) (48 + n % 10)))
     ∙ rw (take-set-le at out (at + count) (48 + n % 10) (omega arith), rest, append_snoc (last_digits count (n / 10)) (48 + n % 10), add-suc)
 
 -- put where there is room, and where there is none
@@ -106,13 +106,13 @@ module _ (out : List ℕ) (at : ℕ) (bytes : List ℕ) where
     pub copied : paste out at bytes (length bytes) ≡ put_at out at bytes
     copied = rw (put, take-length bytes, append_assoc)
 
-pub Filled-put
+pub filled_put
     : (out : List ℕ) (at count n : ℕ) → count ≡ length (decimal 20 n) → at + count ≤ length out
     → filled out at count n ≡ put_at out at (decimal 20 n)
-Filled-put out at count n e h =
+filled_put out at count n e h =
     let room : at + length (decimal 20 n) ≤ length out = omega arith in
     ap (λ (k : ℕ). filled out at k n) e
-    ∙ Filled-is out at (length (decimal 20 n)) n room
+    ∙ filled_is out at (length (decimal 20 n)) n room
     ∙ ap (λ (ds : List ℕ). take at out ++ (ds ++ drop (at + length (decimal 20 n)) out)) (sym (digits_are 20 n))
     ∙ sym (put out at (decimal 20 n) room)
 

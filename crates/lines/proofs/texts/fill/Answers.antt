@@ -3,7 +3,7 @@
 use mathlib.Core.Path.{refl, sym, ◌∙◌}
 use native.Mathlib.Omega.{arith}
 use lib.ListN.{length-set}
-use Rattle.lines.proofs.Fills.{fill_step, fill_end, Filled-put}
+use Rattle.lines.proofs.Fills.{fill_step, fill_end, filled_put}
 use Rattle.lines.proofs.texts.fill.Goals as goal
 
 pub loop-i-preserved : goal.loop-i-preserved
@@ -15,4 +15,4 @@ returns c = let l = c in
     let s = l in
     sym (fill_end l.loop-i.out s.args.at l.loop-i.i l.loop-i.rest c.loop-i-test.false)
     ∙ l.loop-i.invariant.2
-    ∙ Filled-put s.args.out.now s.args.at s.args.count s.args.m s.requires.0 s.requires.1
+    ∙ filled_put s.args.out.now s.args.at s.args.count s.args.m s.requires.0 s.requires.1
