@@ -1,9 +1,0 @@
--- As many places of the list are lent as there is room. Assumes nothing.
-use mathlib.Core.Path.{sym}
-use native.Mathlib.Omega.{arith}
-use lib.Seq.{length-take-le}
-use borrow.Author.Rules.{rules}
-use Rattle.desk.proofs.lists.put_vouchers.Goals as goal
-
-pub slice_bounds-vouchers-end-2 : goal.slice_bounds-vouchers-end-2
-slice_bounds-vouchers-end-2 c = sym (length-take-le _ _ (omega arith))
