@@ -13,6 +13,7 @@ use running::totals_at;
 use whole::{magnitude, signed};
 
 // The new weights break row 9: another count, no further card, or the rule of an opening's weights.
+#[tactic(auto, unfolding(crate::specs::Checks::breaks_by))]
 fn breaks(count: usize, card: u16, weights: &[u32]) -> bool
     ensures { result ≡ breaks_by count card weights.now }
 {

@@ -58,6 +58,7 @@ fn check_given(
 }
 
 // Row 10 at an amount and at a book's net total and settled totals.
+#[tactic(auto, unfolding(crate::specs::Checks::sign_rows))]
 fn check_signs(amount: bool, net: bool, settled: bool) -> Checked
     ensures { result ≡ check_of (sign_rows amount net settled) }
 {
@@ -74,6 +75,7 @@ fn check_signs(amount: bool, net: bool, settled: bool) -> Checked
 }
 
 // Row 9 at a card number and at what is past the count.
+#[tactic(auto, unfolding(crate::specs::Books::card_rows))]
 fn check_card(card: u16, behind: bool) -> Checked
     ensures { result ≡ check_of (card_rows card behind) }
 {
@@ -203,6 +205,7 @@ pub(crate) fn check_refund(book: Book, amount: Amount) -> Checked
 }
 
 // Rows 9, 10 and 11 behind a book's weights and card.
+#[tactic(auto, unfolding(crate::specs::Checks::last_rows))]
 fn check_last(broken: bool, net: bool, settled: bool, short: bool) -> Checked
     ensures { result ≡ check_of (last_rows broken net settled short) }
 {

@@ -34,6 +34,7 @@ fn check_given(scale: u8, currency: Currency) -> Checked
 }
 
 // Rows 13 and 16 at the two columns: their magnitudes, and whether they are no number.
+#[tactic(auto, unfolding(crate::specs::Doubles::column_rows))]
 fn check_columns(net: u64, tax: u64, netless: bool, taxless: bool) -> Checked
     ensures { result ≡ check_of (column_rows net tax netless taxless) }
 {

@@ -105,6 +105,7 @@ fn exchange(decimals: u8, from: Currency, to: Currency, negative: bool, m: u64) 
     settle(to, negative, out_of_euro(places, to, negative, step))
 }
 
+#[tactic(auto, unfolding(crate::specs::Conversion::convert_rows))]
 fn check(decimals: u8, scale: u8, m: u64, from: Currency, to: Currency) -> Checked
     ensures { result ≡ check_of (convert_rows decimals scale m from to) }
 {
