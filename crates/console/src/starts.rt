@@ -51,7 +51,9 @@ pub fn read_path(rt: &(impl Env + Eprint), place: usize, path: &mut [u8]) -> Opt
 }
 
 // The text of a path; none for one that is no text, since only a text can be opened.
-pub fn path_text<'a>(rt: &impl Eprint, path: &'a [u8]) -> Option<&'a str> {
+pub fn path_text<'a>(rt: &impl Eprint, path: &'a [u8]) -> Option<&'a str>
+    ensures { IfSome result (λ text. text.now ≡ path.now) }
+{
     match from_utf8(path) {
         Ok(text) => Some(text),
         Err(_) => {
