@@ -1,5 +1,6 @@
 -- Two amounts of one currency are ordered by worth: Less, Equal or Greater exactly as coefficient * 10^(the other's scale) is below, at or
 -- above the other's. A common power of ten changes no order, and of two numbers exactly one of the three holds. Assumes nothing.
+use Rattle.std.specs.Prelude.{Ok}
 use mathlib.Core.Path.{◌≡◌, refl, sym, ◌∙◌, ap, ap₂, subst}
 use mathlib.Core.Bool.{Bool, true, false, cond}
 use mathlib.Core.Logic.{◌↔◌}
@@ -10,13 +11,12 @@ use borrow.Author.Tests.{le-ltb, ltb-true, ltb-false}
 use lib.Dec.{T}
 use lib.IntN.{ℤ, pos, negsuc, ◌*ℤ◌}
 use lib.Signed.{lt_z, ◌<ℤ◌, lt_z_yes}
-use Rattle.refusal.specs.declared.Checked.TheVariants.{Passed}
 use Rattle.refusal.specs.Rows.{Said, gives, check_of}
 use Rattle.refusal.proofs.Check.{passed}
 use Rattle.whole.specs.Whole.{magnitude_of}
 use Rattle.amount.specs.declared.Amount.{Amount}
-use Rattle.amount.specs.declared.Order.{Order}
-use Rattle.amount.specs.declared.Order.TheVariants.{Less, Equal, Greater}
+use Rattle.std.specs.declared.cmp.Ordering.{Ordering}
+use Rattle.std.specs.declared.cmp.Ordering.TheVariants.{Less, Equal, Greater}
 use Rattle.amount.specs.Amounts.{raised_to}
 use Rattle.amount.specs.Sum.{pair_rows, rows_of_two, greater_scale, compared, order_said}
 use Rattle.amount.proofs.Factors.{times_tens, times_order}
@@ -28,7 +28,7 @@ abbrev pub worth : (a b : Amount) → ℤ
 worth a b = a.coefficient *ℤ pos (10 ^ b.scale)
 
 -- what each order says of two numbers
-abbrev pub Says : Order → (x y : ℤ) → Type 0
+abbrev pub Says : Ordering → (x y : ℤ) → Type 0
 Says Less x y = x <ℤ y
 Says Equal x y = x ≡ y
 Says Greater x y = y <ℤ x
@@ -67,16 +67,16 @@ found_says x y = go (lt_z x y) refl (lt_z y x) refl
     go false e true f = is_less y x f
     go false e false f = neither x y e f
 
-says_found : (o : Order) (x y : ℤ) → Says o x y → compared x y ≡ o
+says_found : (o : Ordering) (x y : ℤ) → Says o x y → compared x y ≡ o
 says_found Less x y h = rw (is_true (lt_z x y) h.lt)
 says_found Equal x y h = rw (h, not_itself y)
 says_found Greater x y h = rw (not_both y x (is_true (lt_z y x) h.lt), is_true (lt_z y x) h.lt)
 
-pub exactly : (o : Order) (x y : ℤ) → (compared x y ≡ o) ↔ Says o x y
-exactly o x y = (λ e. subst (λ (p : Order). Says p x y) e (found_says x y), says_found o x y)
+pub exactly : (o : Ordering) (x y : ℤ) → (compared x y ≡ o) ↔ Says o x y
+exactly o x y = (λ e. subst (λ (p : Ordering). Says p x y) e (found_says x y), says_found o x y)
 
 -- of two numbers no other order holds
-pub no_other : (o p : Order) (x y : ℤ) → Says o x y → Says p x y → o ≡ p
+pub no_other : (o p : Ordering) (x y : ℤ) → Says o x y → Says p x y → o ≡ p
 no_other o p x y h k = sym (says_found o x y h) ∙ says_found p x y k
 
 -- a common factor above 0 changes no order
@@ -84,7 +84,7 @@ same_order : (x y : ℤ) (f : ℕ) → 0 < f → compared (x *ℤ pos f) (y *ℤ
 same_order x y f h = rw (times_order x y f h, times_order y x f h)
 
 -- the order at the greater scale
-abbrev pub found : Amount → Amount → Order
+abbrev pub found : Amount → Amount → Ordering
 found a b = compared (raised_to (greater_scale a b) a) (raised_to (greater_scale a b) b)
 
 worths_found : (a b : Amount) → found a b ≡ compared (worth a b) (worth b a)
@@ -99,24 +99,24 @@ worths_found a b =
     (times_tens b.coefficient (max s t - t) (min s t) s (omega arith))
 
 -- THE LAW: the order of two amounts is that of their worths
-pub by_worth : (a b : Amount) (o : Order) → (found a b ≡ o) ↔ Says o (worth a b) (worth b a)
+pub by_worth : (a b : Amount) (o : Ordering) → (found a b ≡ o) ↔ Says o (worth a b) (worth b a)
 by_worth a b o =
     (λ e. (exactly o (worth a b) (worth b a)).0 (sym (worths_found a b) ∙ e), λ h. worths_found a b ∙ (exactly o (worth a b) (worth b a)).1 h)
 
 -- and the answer of a call that no row stops
-pub order_by_worth : (a b : Amount) (o : Order) → check_of (rows_of_two a b) ≡ Passed → (order_said a b ≡ gives o) ↔ Says o (worth a b) (worth b a)
+pub order_by_worth : (a b : Amount) (o : Ordering) → check_of (rows_of_two a b) ≡ Ok tt → (order_said a b ≡ gives o) ↔ Says o (worth a b) (worth b a)
 unfolding order_said
 order_by_worth a b o e =
     let said : order_said a b ≡ gives (found a b) = passed (gives (found a b)) (rows_of_two a b) e in
     (λ g. (by_worth a b o).0 (same (sym said ∙ g)), λ h. said ∙ ap gives ((by_worth a b o).1 h))
   where
-    same : {p q : Order} → ◌≡◌ {A = Said Order} (gives p) (gives q) → p ≡ q
+    same : {p q : Ordering} → ◌≡◌ {A = Said Ordering} (gives p) (gives q) → p ≡ q
     same e = cc
 
 -- it is total on one currency: two amounts within their limits are ordered, as their worths are
 pub always_ordered : (a b : Amount)
     → Pair a.scale b.scale (magnitude_of a.coefficient) (magnitude_of b.coefficient) a.currency b.currency
-    → (o : Order) × (order_said a b ≡ gives o) × Says o (worth a b) (worth b a)
+    → (o : Ordering) × (order_said a b ≡ gives o) × Says o (worth a b) (worth b a)
 always_ordered a b p =
     let passes = pair_passes a.scale b.scale (magnitude_of a.coefficient) (magnitude_of b.coefficient) a.currency b.currency p in
     let says = (by_worth a b (found a b)).0 refl in (found a b, (order_by_worth a b (found a b) passes).1 says, says)

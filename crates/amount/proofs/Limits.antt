@@ -1,4 +1,5 @@
 -- What a check that passed tells of its numbers: none of its rows holds, so each number is within its limit. Assumes nothing.
+use Rattle.std.specs.Prelude.{Ok}
 use mathlib.Core.Path.{◌≡◌, ◌∙◌, ap, ap₂}
 use Prim.Native.Nat.{ℕ, ◌≤◌}
 use borrow.Author.Tests.{le-ltb, eq-eqb, ltb-false, eqb-true, not-false}
@@ -7,7 +8,6 @@ use lib.IntN.{ℤ}
 use mir.Syntax.{w64}
 use mir.Val.{SFits, to_z, of_z}
 use mir.ValLaws.{to_z-of_z}
-use Rattle.refusal.specs.declared.Checked.TheVariants.{Passed}
 use Rattle.refusal.specs.Rows.{check_of}
 use Rattle.refusal.proofs.Check.{clear}
 use Rattle.whole.specs.Whole.{magnitude_of}
@@ -24,7 +24,7 @@ pub record Sound (scale m : ℕ) (currency : Currency) : Type 0 where
   pub within : m ≤ largest
   pub known : currency.0 ≤ last_currency
 
-pub sound : (scale m : ℕ) (currency : Currency) → check_of (amount_rows scale m currency) ≡ Passed → Sound scale m currency
+pub sound : (scale m : ℕ) (currency : Currency) → check_of (amount_rows scale m currency) ≡ Ok tt → Sound scale m currency
 sound scale m currency e =
     let rows = clear (amount_rows scale m currency) e in
     record {
@@ -39,7 +39,7 @@ pub record Pair (s t m n : ℕ) (c d : Currency) : Type 0 where
   pub second : Sound t n d
   pub agree : c.0 ≡ d.0
 
-pub pair : (s t m n : ℕ) (c d : Currency) → check_of (pair_rows s t m n c d) ≡ Passed → Pair s t m n c d
+pub pair : (s t m n : ℕ) (c d : Currency) → check_of (pair_rows s t m n c d) ≡ Ok tt → Pair s t m n c d
 unfolding pair_rows
 pair s t m n c d e =
     let scales = clear (pair_rows s t m n c d) e in
@@ -60,7 +60,7 @@ pair s t m n c d e =
     }
 
 -- and the other way about: such a pair passes
-pub pair_passes : (s t m n : ℕ) (c d : Currency) → Pair s t m n c d → check_of (pair_rows s t m n c d) ≡ Passed
+pub pair_passes : (s t m n : ℕ) (c d : Currency) → Pair s t m n c d → check_of (pair_rows s t m n c d) ≡ Ok tt
 unfolding pair_rows
 pair_passes s t m n c d p =
     let a = p.first in
@@ -69,7 +69,7 @@ pair_passes s t m n c d p =
     (le-ltb last_scale s a.scaled, le-ltb last_scale t b.scaled, le-ltb largest m a.within, le-ltb largest n b.within, le-ltb last_currency c.0 a.known, le-ltb last_currency d.0 b.known, eq-eqb c.0 d.0 p.agree)
 
 -- of an amount and a new scale
-pub rescalable : (s t m : ℕ) (c : Currency) → check_of (rescale_rows s t m c) ≡ Passed → Sound s m c × (t ≤ last_scale)
+pub rescalable : (s t m : ℕ) (c : Currency) → check_of (rescale_rows s t m c) ≡ Ok tt → Sound s m c × (t ≤ last_scale)
 rescalable s t m c e =
     let rows = clear (rescale_rows s t m c) e in
     let kept : Sound s m c =

@@ -1,5 +1,6 @@
 -- Rescaling up and back down gives the amount again under every mode: the power of ten divides the raised coefficient, and every rule gives an
 -- exact quotient itself. Assumes nothing.
+use Rattle.std.specs.Prelude.{Ok}
 use mathlib.Core.Path.{◌≡◌, refl, ◌∙◌, ap, subst}
 use mathlib.Core.Bool.{true, false, cond}
 use mathlib.Core.List.{List, [], ◌∷◌}
@@ -9,7 +10,6 @@ use native.Mathlib.Omega.{arith}
 use borrow.Author.Tests.{le-leb, lt-leb, le-ltb, ltb-false}
 use lib.Dec.{leb}
 use lib.IntN.{ℤ, pos, ◌*ℤ◌}
-use Rattle.refusal.specs.declared.Checked.TheVariants.{Passed}
 use Rattle.refusal.specs.declared.Refusal.TheVariants.{Mode, Limit}
 use Rattle.refusal.specs.Rows.{Said, gives, Row, row, first_row, check_of}
 use Rattle.refusal.proofs.Check.{passed, clear}
@@ -53,13 +53,13 @@ back rule rule₂ t a h = rw (le-leb a.scale t h) (go (dec_le t a.scale))
     go (no further) = rw (lt-leb t a.scale (omega arith)) (lowered_again rule₂ t a)
 
 -- an accepted call: no row held, and the value is what was given
-accepted : {A : Type 0} (x : A) (rows : List Row) (v : Said A) → first_row rows v ≡ gives x → (check_of rows ≡ Passed) × (v ≡ gives x)
+accepted : {A : Type 0} (x : A) (rows : List Row) (v : Said A) → first_row rows v ≡ gives x → (check_of rows ≡ Ok tt) × (v ≡ gives x)
 accepted x [] v e = (refl, e)
 accepted x (row r true ∷ rows) v e = let z : ◌≡◌ {A = ℕ} 0 1 = cc in absurd (omega arith)
 accepted x (row r false ∷ rows) v e = accepted x rows v e
 
 -- the rows of the way back hold as little as those of the way there
-passes : (s t m : ℕ) (c : Currency) → s ≤ last_scale → t ≤ last_scale → m ≤ largest → c.0 ≤ last_currency → check_of (rescale_rows s t m c) ≡ Passed
+passes : (s t m : ℕ) (c : Currency) → s ≤ last_scale → t ≤ last_scale → m ≤ largest → c.0 ≤ last_currency → check_of (rescale_rows s t m c) ≡ Ok tt
 passes s t m c h k l n = simp (le-ltb last_scale s h, le-ltb last_scale t k, le-ltb largest m l, le-ltb last_currency c.0 n)
 
 -- the way back, by the rule

@@ -1,20 +1,12 @@
 -- Document 01, "Amounts and the table of currencies": the amount, and the rows of the table of refusals that an amount can hold.
 -- Cited by the promises on amounts. Assumes nothing.
 use Rattle.std.specs.Prelude.{Bool, List, [], ◌∷◌, ℕ, ◌-◌, ◌^◌, ltb, ℤ, pos, ◌*ℤ◌}
-use Rattle.refusal.specs.Number.{number_of, blamed_of}
-use Rattle.refusal.specs.Rows.{Said, gives, refuses, Row, row, first_row}
+use Rattle.refusal.specs.Rows.{Said, gives, Row, row, first_row}
 use Rattle.refusal.specs.declared.Refusal.TheVariants.{Scale, Magnitude, Unknown, Limit}
 use Rattle.whole.specs.Whole.{magnitude_of}
 use Rattle.currency.specs.declared.Currency.{Currency}
 use Rattle.currency.specs.Table.{unknown}
 use Rattle.amount.specs.declared.Amount.{Amount}
-use Rattle.amount.specs.declared.Answer.{Answer}
-use Rattle.amount.specs.declared.Answer.TheVariants.{Value, Refused}
-
--- what each case of the answer says
-abbrev pub means_amount : Answer → Said Amount
-means_amount (Value a) = gives a
-means_amount (Refused r) = refuses (number_of r) (blamed_of r)
 
 -- "The largest magnitude of a coefficient, called L" is by document 02, Ask 7: "L rises to 999,999,999,999,999 everywhere"; "a scale from 0 to 6"
 abbrev pub largest : ℕ

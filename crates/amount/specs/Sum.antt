@@ -1,17 +1,14 @@
--- Document 01, "Sum of two amounts", "Order", "Negation". Cited by `Amount::sum`, `Amount::order`, `Amount::negate`. Assumes nothing.
+-- Document 01, "Sum of two amounts", "Ordering", "Negation". Cited by `Amount::sum`, `Amount::order`, `Amount::negate`. Assumes nothing.
 use Rattle.std.specs.Prelude.{cond, List, [], ◌∷◌, ℕ, max, ℤ, neg_ℤ, ◌+ℤ◌}
 use Rattle.std.specs.Int.Signed.{lt_z}
-use Rattle.refusal.specs.Number.{number_of, blamed_of}
-use Rattle.refusal.specs.Rows.{Said, gives, refuses, Row, row, first_row}
+use Rattle.refusal.specs.Rows.{Said, gives, Row, row, first_row}
 use Rattle.refusal.specs.declared.Refusal.TheVariants.{Scale, Magnitude, Unknown, Differ}
 use Rattle.whole.specs.Whole.{magnitude_of}
 use Rattle.currency.specs.declared.Currency.{Currency}
 use Rattle.currency.specs.Table.{unknown, differ}
 use Rattle.amount.specs.declared.Amount.{Amount}
-use Rattle.amount.specs.declared.Order.{Order}
-use Rattle.amount.specs.declared.Order.TheVariants.{Less, Equal, Greater}
-use Rattle.amount.specs.declared.Ordered.{Ordered}
-use Rattle.amount.specs.declared.Ordered.TheVariants.{Value, Refused}
+use Rattle.std.specs.declared.cmp.Ordering.{Ordering}
+use Rattle.std.specs.declared.cmp.Ordering.TheVariants.{Less, Equal, Greater}
 use Rattle.amount.specs.Amounts.{bad_scale, over_l, amount_rows, limited, raised_to}
 
 -- the rows of a call with two amounts: 2, 3 and 4 at each, and 5, "two currencies that must agree differ"
@@ -43,15 +40,11 @@ sum_said a b =
     first_row (rows_of_two a b)
     (limited (total a b) (record { currency = a.currency; scale = greater_scale a b; coefficient = total a b }))
 
--- "Order: same currency, by worth, so 1.5 and 1.50 are equal"
-abbrev pub compared : ℤ → ℤ → Order
+-- "Ordering: same currency, by worth, so 1.5 and 1.50 are equal"
+abbrev pub compared : ℤ → ℤ → Ordering
 compared x y = cond (lt_z x y) Less (cond (lt_z y x) Greater Equal)
 
-abbrev pub means_order : Ordered → Said Order
-means_order (Value o) = gives o
-means_order (Refused r) = refuses (number_of r) (blamed_of r)
-
-unfoldable pub order_said : Amount → Amount → Said Order
+unfoldable pub order_said : Amount → Amount → Said Ordering
 order_said a b = first_row (rows_of_two a b) (gives (compared (raised_to (greater_scale a b) a) (raised_to (greater_scale a b) b)))
 
 -- "Negation: exact"

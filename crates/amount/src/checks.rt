@@ -1,36 +1,36 @@
 // What every call that takes or makes an amount checks.
 ghost use Rattle.std.specs.Prelude.{◌≡◌};
-ghost use Rattle.refusal.specs.Rows.{check_of};
-ghost use Rattle.amount.specs.Amounts.{amount_rows, limited, means_amount};
+ghost use Rattle.refusal.specs.Rows.{check_of, means};
+ghost use Rattle.amount.specs.Amounts.{amount_rows, limited};
 
-use crate::{Amount, Answer};
+use crate::Amount;
 use currency::Currency;
-use refusal::{Checked, Refusal};
+use refusal::Refusal;
 use whole::magnitude;
 
 // Rows 2, 3 and 4 at an amount: its scale, its coefficient's magnitude and its currency number.
-pub fn check_one(scale: u8, m: u64, currency: Currency) -> Checked
+pub fn check_one(scale: u8, m: u64, currency: Currency) -> Result<(), Refusal>
     ensures { result ≡ check_of (amount_rows scale m currency) }
 {
     if Amount::SCALE < scale {
-        return Checked::Refused(Refusal::Scale);
+        return Err(Refusal::Scale);
     }
     if Amount::L < m {
-        return Checked::Refused(Refusal::Magnitude);
+        return Err(Refusal::Magnitude);
     }
     if Currency::LAST < currency.0 {
-        return Checked::Refused(Refusal::Unknown);
+        return Err(Refusal::Unknown);
     }
-    Checked::Passed
+    Ok(())
 }
 
 // The amount, or refusal 13 where its coefficient is over L.
-pub fn within(amount: Amount) -> Answer
-    ensures { means_amount result ≡ limited amount.coefficient amount }
+pub fn within(amount: Amount) -> Result<Amount, Refusal>
+    ensures { means result ≡ limited amount.coefficient amount }
 {
     if Amount::L < magnitude(amount.coefficient) {
-        Answer::Refused(Refusal::Limit)
+        Err(Refusal::Limit)
     } else {
-        Answer::Value(amount)
+        Ok(amount)
     }
 }

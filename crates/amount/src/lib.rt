@@ -24,25 +24,4 @@ impl Amount {
     pub const SCALE: u8 = 6;
 }
 
-// An answer that is an amount.
-#[derive(Clone, Copy)]
-pub enum Answer {
-    Value(Amount),
-    Refused(Refusal),
-}
-
-#[derive(Clone, Copy)]
-pub enum Order {
-    Less,
-    Equal,
-    Greater,
-}
-
-// An answer that is an order.
-#[derive(Clone, Copy)]
-pub enum Ordered {
-    Value(Order),
-    Refused(Refusal),
-}
-
 pub use checks::{check_one, within};

@@ -1,37 +1,37 @@
 // An amount taken to another scale.
 ghost use Rattle.std.specs.Prelude.{◌≡◌, cond, ◌-◌, ◌≤◌, ◌^◌, leb, pos, ◌*ℤ◌};
-ghost use Rattle.refusal.specs.Rows.{check_of};
+ghost use Rattle.refusal.specs.Rows.{check_of, means};
 ghost use Rattle.whole.specs.Whole.{magnitude_of};
 ghost use Rattle.rounding.specs.Leaf.{rounded};
-ghost use Rattle.amount.specs.Amounts.{largest, last_scale, means_amount};
+ghost use Rattle.amount.specs.Amounts.{largest, last_scale};
 ghost use Rattle.amount.specs.Raising.{nearer};
 ghost use Rattle.amount.specs.Rescaling.{rescale_rows, rescale_by_rule, rescale_said};
 
+use crate::Amount;
 use crate::checks::within;
 use crate::sum::raised;
-use crate::{Amount, Answer};
 use currency::{Currency, power_of_ten};
-use refusal::{Checked, Refusal};
-use rounding::{Choice, Rule, round, rule_of};
+use refusal::Refusal;
+use rounding::{Rule, round};
 use whole::{is_negative, magnitude, signed};
 
 // Rows 2, 3 and 4 at an amount of scale s and magnitude m in the currency c, and at the new scale t.
-fn check(s: u8, t: u8, m: u64, c: Currency) -> Checked
+fn check(s: u8, t: u8, m: u64, c: Currency) -> Result<(), Refusal>
     ensures { result ≡ check_of (rescale_rows s t m c) }
 {
     if Amount::SCALE < s {
-        return Checked::Refused(Refusal::Scale);
+        return Err(Refusal::Scale);
     }
     if Amount::SCALE < t {
-        return Checked::Refused(Refusal::Scale);
+        return Err(Refusal::Scale);
     }
     if Amount::L < m {
-        return Checked::Refused(Refusal::Magnitude);
+        return Err(Refusal::Magnitude);
     }
     if Currency::LAST < c.0 {
-        return Checked::Refused(Refusal::Unknown);
+        return Err(Refusal::Unknown);
     }
-    Checked::Passed
+    Ok(())
 }
 
 // A coefficient divided by a power of ten and rounded by the rule.
@@ -58,29 +58,25 @@ fn moved(rule: Rule, coefficient: i64, from: u8, to: u8) -> i64
     }
 }
 
-fn by_rule(amount: Amount, scale: u8, rule: Rule) -> Answer
-    ensures { means_amount result ≡ rescale_by_rule rule scale amount }
+fn by_rule(amount: Amount, scale: u8, rule: Rule) -> Result<Amount, Refusal>
+    ensures { means result ≡ rescale_by_rule rule scale amount }
 {
     let currency = amount.currency;
     let m = magnitude(amount.coefficient);
-    match check(amount.scale, scale, m, currency) {
-        Checked::Refused(refusal) => Answer::Refused(refusal),
-        Checked::Passed => within(Amount {
-            currency,
-            scale,
-            coefficient: moved(rule, amount.coefficient, amount.scale, scale),
-        }),
-    }
+    check(amount.scale, scale, m, currency)?;
+    within(Amount {
+        currency,
+        scale,
+        coefficient: moved(rule, amount.coefficient, amount.scale, scale),
+    })
 }
 
 impl Amount {
     // The amount at another scale, or the refusal 1, 2, 3, 4 or 13.
-    pub fn rescale(self, scale: u8, mode: u8) -> Answer
-        ensures { means_amount result ≡ rescale_said self scale mode }
+    pub fn rescale(self, scale: u8, mode: u8) -> Result<Amount, Refusal>
+        ensures { means result ≡ rescale_said self scale mode }
     {
-        match rule_of(mode) {
-            Choice::Refused(refusal) => Answer::Refused(refusal),
-            Choice::Chosen(rule) => by_rule(self, scale, rule),
-        }
+        let rule = Rule::try_from(mode)?;
+        by_rule(self, scale, rule)
     }
 }

@@ -2,51 +2,51 @@
 ghost use Rattle.std.specs.Prelude.{◌≡◌, ◌-◌, ◌*◌, ◌≤◌, ◌^◌, max, pos, neg_ℤ, ◌+ℤ◌, ◌*ℤ◌};
 ghost use Rattle.std.specs.Int.{w64};
 ghost use Rattle.std.proofs.Common.{SFits};
-ghost use Rattle.refusal.specs.Rows.{check_of};
+ghost use Rattle.refusal.specs.Rows.{check_of, means};
 ghost use Rattle.whole.specs.Whole.{magnitude_of};
-ghost use Rattle.amount.specs.Amounts.{largest, last_scale, means_amount};
+ghost use Rattle.amount.specs.Amounts.{largest, last_scale};
 ghost use Rattle.amount.specs.Raising.{nearest, nearer};
 ghost use Rattle.amount.specs.Sum.{pair_rows, sum_said, negate_said};
 
+use crate::Amount;
 use crate::checks::{check_one, within};
-use crate::{Amount, Answer};
 use currency::{Currency, power_of_ten};
-use refusal::{Checked, Refusal};
+use refusal::Refusal;
 use whole::{is_negative, magnitude, signed};
 
 // Rows 2 to 5 at two amounts: their scales s and t, their coefficients' magnitudes m and n, their currency numbers c and d.
-pub(crate) fn check_two(s: u8, t: u8, m: u64, n: u64, c: Currency, d: Currency) -> Checked
+pub(crate) fn check_two(
+    s: u8,
+    t: u8,
+    m: u64,
+    n: u64,
+    c: Currency,
+    d: Currency,
+) -> Result<(), Refusal>
     ensures { result ≡ check_of (pair_rows s t m n c d) }
 {
     if Amount::SCALE < s {
-        return Checked::Refused(Refusal::Scale);
+        return Err(Refusal::Scale);
     }
     if Amount::SCALE < t {
-        return Checked::Refused(Refusal::Scale);
+        return Err(Refusal::Scale);
     }
     if Amount::L < m {
-        return Checked::Refused(Refusal::Magnitude);
+        return Err(Refusal::Magnitude);
     }
     if Amount::L < n {
-        return Checked::Refused(Refusal::Magnitude);
+        return Err(Refusal::Magnitude);
     }
     if Currency::LAST < c.0 {
-        return Checked::Refused(Refusal::Unknown);
+        return Err(Refusal::Unknown);
     }
     if Currency::LAST < d.0 {
-        return Checked::Refused(Refusal::Unknown);
+        return Err(Refusal::Unknown);
     }
     if c.0 != d.0 {
-        return Checked::Refused(Refusal::Differ);
+        return Err(Refusal::Differ);
     }
-    Checked::Passed
-}
-
-// The greater of two scales.
-pub(crate) fn greater(s: u8, t: u8) -> u8
-    ensures { result ≡ max s t }
-{
-    if s < t { t } else { s }
+    Ok(())
 }
 
 // So far from 0 that no amount within L, added to it, brings it back to L.
@@ -84,7 +84,7 @@ fn total(x: i64, s: u8, y: i64, t: u8) -> i64
     requires { (s ≤ last_scale) × (t ≤ last_scale) }
     ensures { result ≡ nearer (x *ℤ pos (10 ^ (max s t - s))) +ℤ nearer (y *ℤ pos (10 ^ (max s t - t))) }
 {
-    let scale = greater(s, t);
+    let scale = s.max(t);
     add(raised(x, s, scale), raised(y, t, scale))
 }
 
@@ -98,34 +98,30 @@ fn opposite(x: i64) -> i64
 
 impl Amount {
     // The exact sum at the greater of the two scales, or the refusal 2, 3, 4, 5 or 13.
-    pub fn sum(self, other: Amount) -> Answer
-        ensures { means_amount result ≡ sum_said self other }
+    pub fn sum(self, other: Amount) -> Result<Amount, Refusal>
+        ensures { means result ≡ sum_said self other }
     {
         let currency = self.currency;
         let m = magnitude(self.coefficient);
         let n = magnitude(other.coefficient);
-        match check_two(self.scale, other.scale, m, n, currency, other.currency) {
-            Checked::Refused(refusal) => Answer::Refused(refusal),
-            Checked::Passed => within(Amount {
-                currency,
-                scale: greater(self.scale, other.scale),
-                coefficient: total(self.coefficient, self.scale, other.coefficient, other.scale),
-            }),
-        }
+        check_two(self.scale, other.scale, m, n, currency, other.currency)?;
+        within(Amount {
+            currency,
+            scale: self.scale.max(other.scale),
+            coefficient: total(self.coefficient, self.scale, other.coefficient, other.scale),
+        })
     }
 
     // The opposite amount, or the refusal 2, 3 or 4.
-    pub fn negate(self) -> Answer
-        ensures { means_amount result ≡ negate_said self }
+    pub fn negate(self) -> Result<Amount, Refusal>
+        ensures { means result ≡ negate_said self }
     {
         let currency = self.currency;
-        match check_one(self.scale, magnitude(self.coefficient), currency) {
-            Checked::Refused(refusal) => Answer::Refused(refusal),
-            Checked::Passed => Answer::Value(Amount {
-                currency,
-                scale: self.scale,
-                coefficient: opposite(self.coefficient),
-            }),
-        }
+        check_one(self.scale, magnitude(self.coefficient), currency)?;
+        Ok(Amount {
+            currency,
+            scale: self.scale,
+            coefficient: opposite(self.coefficient),
+        })
     }
 }

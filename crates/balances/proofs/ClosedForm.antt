@@ -2,7 +2,7 @@
 -- n - 1, all scaled by 10,000^n". Each interest is at most half a unit from exact, and the distance before it grows by 1 + rate. Assumes nothing.
 use mathlib.Core.Path.{◌≡◌, refl, ap, ◌∙◌}
 use mathlib.Core.Bool.{false}
-use Prim.Native.Nat.{ℕ, zero, suc, ◌+◌, ◌-◌, ◌*◌, ◌^◌, ◌<◌, ◌≤◌}
+use Prim.Native.Nat.{ℕ, zero, suc, ◌+◌, ◌-◌, ◌*◌, ◌^◌, ◌≤◌}
 use native.Mathlib.Nat.{mul-le-mul_right, pow-suc, pow-zero}
 use native.Mathlib.Omega.{arith}
 use lib.IntN.{pos}

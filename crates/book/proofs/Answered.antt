@@ -1,6 +1,7 @@
 -- From the checks of a call to its promise: what passed is within the limits that the running totals ask, and the answer of a passed
 -- or a refused call is the one that its rows say. Assumes nothing.
-use mathlib.Core.Path.{◌≡◌, sym, ap, subst, ◌∙◌}
+use Rattle.std.specs.Prelude.{Ok, Err}
+use mathlib.Core.Path.{◌≡◌, sym, subst}
 use mathlib.Core.Bool.{false}
 use mathlib.Core.List.{List, [], ◌∷◌, ◌++◌}
 use Prim.Native.Nat.{ℕ, ◌+◌, ◌-◌, ◌≤◌}
@@ -10,7 +11,6 @@ use lib.Dec.{ltb}
 use lib.ListN.{length, replicate}
 use Rattle.refusal.specs.declared.Refusal.{Refusal}
 use Rattle.refusal.specs.declared.Refusal.TheVariants.{Refund, Limit}
-use Rattle.refusal.specs.declared.Checked.TheVariants.{Passed, Refused}
 use Rattle.refusal.specs.Number.{number_of, blamed_of}
 use Rattle.refusal.specs.Rows.{Said, gives, refuses, row, check_of}
 use Rattle.refusal.proofs.Check.{passed, refused, clear}
@@ -22,8 +22,8 @@ use Rattle.units.specs.Rule.{totals}
 use Rattle.book.specs.declared.Book.{Book}
 use Rattle.book.specs.declared.Moved.{Moved}
 use Rattle.book.specs.Settled.{any_over}
-use Rattle.book.specs.Books.{partners, weight_sum, zeros, settled_sum, weight_rows, with_book, book_rows}
-use Rattle.book.specs.Moves.{net_of, units_of, move_rows, post_rows, refund_rows, post_said, refund_said, less_of, paid_of, taken_of, Answers, Posts, Refunds, zero_book, open_book, open_rows, open_said, opened_book, Opens, totals_said, totals_of, Tallies}
+use Rattle.book.specs.Books.{partners, weight_sum, zeros, settled_sum, weight_rows, with_book}
+use Rattle.book.specs.Moves.{net_of, units_of, move_rows, post_rows, refund_rows, post_said, refund_said, less_of, paid_of, taken_of, Answers, Posts, Refunds, open_rows}
 use Rattle.refusal.proofs.Joined.{both_passed}
 use Rattle.running.proofs.Places.{sum_past}
 use Rattle.book.proofs.Lists.{sum_padded, sum_padding}
@@ -39,7 +39,7 @@ module _ (b : Book) (a : Amount) where
     pub over : any_over b.settled ≡ false
     pub limit : settled_sum b + net_of b ≤ largest
 
-  pub move_fit : check_of (move_rows b a) ≡ Passed → Fit
+  pub move_fit : check_of (move_rows b a) ≡ Ok tt → Fit
   unfolding move_rows with_book weight_rows
   move_fit e =
       let rows = clear (move_rows b a) e in
@@ -54,25 +54,25 @@ module _ (b : Book) (a : Amount) where
         limit = limit_by b.net b.settled rows.1.1.1.1.1.0 signs.0 signs.1.0;
       }
 
-  pub post_fit : check_of (post_rows b a) ≡ Passed → Fit × (settled_sum b + (net_of b + units_of a) ≤ largest)
+  pub post_fit : check_of (post_rows b a) ≡ Ok tt → Fit × (settled_sum b + (net_of b + units_of a) ≤ largest)
   post_fit e =
       let last = row Limit (over_l (settled_sum b + (net_of b + units_of a))) ∷ [] in
       let parts = both_passed (move_rows b a) last e in
       (move_fit parts.0, ltb-false largest (settled_sum b + (net_of b + units_of a)) (clear last parts.1).0)
 
-  pub refund_fit : check_of (refund_rows b a) ≡ Passed → Fit × (units_of a ≤ net_of b)
+  pub refund_fit : check_of (refund_rows b a) ≡ Ok tt → Fit × (units_of a ≤ net_of b)
   refund_fit e =
       let parts = both_passed (move_rows b a) (row Refund (ltb (net_of b) (units_of a)) ∷ []) e in
       (move_fit parts.0, ltb-false (net_of b) (units_of a) (clear (row Refund (ltb (net_of b) (units_of a)) ∷ []) parts.1).0)
 
   module _ (r : Moved) where
-    pub post_refused : (refusal : Refusal) → check_of (post_rows b a) ≡ Refused refusal → Answers b (refuses (number_of refusal) (blamed_of refusal)) zeros r
+    pub post_refused : (refusal : Refusal) → check_of (post_rows b a) ≡ Err refusal → Answers b (refuses (number_of refusal) (blamed_of refusal)) zeros r
         → Posts b a r
     unfolding post_said paid_of
     post_refused refusal e answer =
         subst (λ (s : Said ℕ). Answers b s (paid_of b s) r) (sym (refused (gives (net_of b + units_of a)) (post_rows b a) refusal e)) answer
 
-    pub refund_refused : (refusal : Refusal) → check_of (refund_rows b a) ≡ Refused refusal
+    pub refund_refused : (refusal : Refusal) → check_of (refund_rows b a) ≡ Err refusal
         → Answers b (refuses (number_of refusal) (blamed_of refusal)) zeros r → Refunds b a r
     unfolding refund_said taken_of
     refund_refused refusal e answer =
@@ -80,31 +80,17 @@ module _ (b : Book) (a : Amount) where
 
     -- n and u are N and A as the program has them
     module _ (n u : ℕ) (net : n ≡ net_of b) (units : u ≡ units_of a) where
-      pub post_passed : check_of (post_rows b a) ≡ Passed → Answers b (gives (n + u)) (less_of (totals b.weights (n + u)) (totals b.weights n)) r
+      pub post_passed : check_of (post_rows b a) ≡ Ok tt → Answers b (gives (n + u)) (less_of (totals b.weights (n + u)) (totals b.weights n)) r
           → Posts b a r
       unfolding post_said paid_of
       post_passed e answer =
           subst (λ (s : Said ℕ). Answers b s (paid_of b s) r) (sym (passed (gives (net_of b + units_of a)) (post_rows b a) e)) (rw (net, units) at answer)
 
-      pub refund_passed : check_of (refund_rows b a) ≡ Passed
+      pub refund_passed : check_of (refund_rows b a) ≡ Ok tt
           → Answers b (gives (n - u)) (less_of (totals b.weights n) (totals b.weights (n - u))) r → Refunds b a r
       unfolding refund_said taken_of
       refund_passed e answer =
           subst (λ (s : Said ℕ). Answers b s (taken_of b s) r) (sym (passed (gives (net_of b - units_of a)) (refund_rows b a) e)) (rw (net, units) at answer)
-
--- the running totals of a book
-module _ (b : Book) where
-  pub totals_refused : (refusal : Refusal) → check_of (book_rows b) ≡ Refused refusal → Tallies b (record { outcome = Refused refusal; totals = zeros })
-  unfolding totals_said totals_of
-  totals_refused refusal e =
-      let said : totals_said b ≡ refuses (number_of refusal) (blamed_of refusal) = refused (gives (totals b.weights (net_of b))) (book_rows b) refusal e in
-      record { outcome = sym said; totals = sym (ap totals_of said) }
-
-  pub totals_passed : (ts : List ℕ) → check_of (book_rows b) ≡ Passed → ts ≡ totals b.weights (net_of b) → Tallies b (record { outcome = Passed; totals = ts })
-  unfolding totals_said totals_of
-  totals_passed ts e same =
-      let said : totals_said b ≡ gives (totals b.weights (net_of b)) = passed (gives (totals b.weights (net_of b))) (book_rows b) e in
-      record { outcome = ap gives same ∙ sym said; totals = same ∙ sym (ap totals_of said) }
 
 -- noughts behind a list of weights change no row of it
 pub padded_rows : (ws : List ℕ) (n : ℕ) → check_of (weight_rows (length ws) (ws ++ replicate n 0)) ≡ check_of (weight_rows (length ws) ws)
@@ -113,19 +99,6 @@ padded_rows ws n = rw (sum_padding ws n, sum_padded ws n, sum_past ws (length ws
 
 -- an opening
 module _ (c : Currency) (ws : List ℕ) where
-  pub open_fit : check_of (open_rows c ws) ≡ Passed → length ws ≤ partners
+  pub open_fit : check_of (open_rows c ws) ≡ Ok tt → length ws ≤ partners
   unfolding weight_rows
   open_fit e = ltb-false partners (length ws) (clear (open_rows c ws) e).1.1.0
-
-  pub open_refused : (refusal : Refusal) (b : Book) → check_of (open_rows c ws) ≡ Refused refusal → b ≡ zero_book
-      → Opens c ws (record { outcome = Refused refusal; book = b })
-  unfolding open_said opened_book
-  open_refused refusal b e same =
-      let said : open_said c ws ≡ refuses (number_of refusal) (blamed_of refusal) = refused (gives (open_book c ws)) (open_rows c ws) refusal e in
-      record { outcome = sym said; book = same ∙ sym (ap opened_book said) }
-
-  pub open_passed : (b : Book) → check_of (open_rows c ws) ≡ Passed → b ≡ open_book c ws → Opens c ws (record { outcome = Passed; book = b })
-  unfolding open_said opened_book
-  open_passed b e same =
-      let said : open_said c ws ≡ gives (open_book c ws) = passed (gives (open_book c ws)) (open_rows c ws) e in
-      record { outcome = ap gives same ∙ sym said; book = same ∙ sym (ap opened_book said) }

@@ -1,6 +1,7 @@
 -- What one call does to a book, whatever the book: an accepted posting or refund moves the net total by the amount, within L, and pays
 -- the units that lie between; a refused one moves nothing and pays nothing. A value is given only where no row holds, and the
 -- rows then say the rest. Assumes nothing.
+use Rattle.std.specs.Prelude.{Result, Ok}
 use mathlib.Core.Path.{◌≡◌, refl, sym, ap, ◌∙◌}
 use mathlib.Core.Bool.{true, false}
 use mathlib.Core.List.{List, [], ◌∷◌}
@@ -8,9 +9,7 @@ use Prim.Native.Nat.{ℕ, ◌+◌, ◌-◌, ◌≤◌}
 use native.Mathlib.Omega.{arith}
 use borrow.Author.Tests.{ltb-false}
 use lib.ListN.{get_or, length, length-append, length-replicate}
-use Rattle.refusal.specs.Rows.{Said, gives, refuses, Row, row, first_row, means_outcome}
-use Rattle.refusal.specs.declared.Checked.{Checked}
-use Rattle.refusal.specs.declared.Checked.TheVariants.{Passed}
+use Rattle.refusal.specs.Rows.{Said, gives, refuses, Row, row, first_row, means}
 use Rattle.refusal.proofs.Check.{Clear}
 use Rattle.whole.specs.Sums.{sum_of}
 use Rattle.whole.proofs.Sums.{get_d_noughts, sum_noughts}
@@ -21,12 +20,12 @@ use Rattle.units.specs.Rule.{totals}
 use Rattle.units.proofs.Added.{sum_totals, never_fall}
 use Rattle.book.specs.declared.Book.{Book}
 use Rattle.book.specs.declared.Moved.{Moved}
-use Rattle.book.specs.declared.Opened.{Opened}
 use Rattle.book.specs.Books.{partners, zeros, weight_rows, with_book}
 use Rattle.book.specs.Cards.{new_card, carded_rows, card_said, card_book, Cards}
 use Rattle.book.specs.History.{Begins, opened_by, carded_by}
 use Rattle.book.specs.Moves.{net_of, units_of, move_rows, post_rows, refund_rows, post_said, refund_said, next_book, less_of, paid_of, taken_of, Answers, Posts, Refunds, Opens, open_rows, open_said, open_book}
 use Rattle.running.proofs.Places.{less_place, less_sum}
+use Rattle.refusal.specs.declared.Refusal.{Refusal}
 use Rattle.book.proofs.Lists.{sum_padded}
 
 -- a value is given where no row holds
@@ -150,5 +149,5 @@ unfolding card_book
 refused_card b ws r n k e p = (p.book ∙ ap (card_book b) e, p.paid)
 
 -- an opening that passed was accepted, and gave the book that it answered
-pub passed_opening : (c : Currency) (ws : List ℕ) (r : Opened) → Opens c ws r → r.outcome ≡ Passed → open_said c ws ≡ gives r.book
-passed_opening c ws r p e = sym p.outcome ∙ ap (λ (o : Checked). means_outcome o r.book) e
+pub passed_opening : (c : Currency) (ws : List ℕ) (r : Result Book Refusal) (b : Book) → Opens c ws r → r ≡ Ok b → open_said c ws ≡ gives b
+passed_opening c ws r b p e = sym p ∙ ap means e

@@ -1,5 +1,6 @@
 -- From the check of a new card to its promise: one test of row 9 in place of the rows of the new weights, what passed is ready for a new card,
 -- and the running totals added place by place are what the definition adds. Assumes nothing.
+use Rattle.std.specs.Prelude.{Ok, Err}
 use mathlib.Core.Path.{◌≡◌, refl, sym, ap, ◌∙◌}
 use mathlib.Core.Bool.{Bool, true, false, not, cond}
 use mathlib.Core.List.{List, [], ◌∷◌, ◌++◌}
@@ -11,7 +12,6 @@ use lib.IntN.{pos}
 use lib.ListN.{length, get_or, drop}
 use Rattle.refusal.specs.declared.Refusal.{Refusal}
 use Rattle.refusal.specs.declared.Refusal.TheVariants.{Weights, Room}
-use Rattle.refusal.specs.declared.Checked.TheVariants.{Passed, Refused}
 use Rattle.refusal.specs.Number.{number_of, blamed_of}
 use Rattle.refusal.specs.Rows.{gives, refuses, Row, row, check_of}
 use Rattle.refusal.proofs.Check.{passed, refused, clear}
@@ -28,7 +28,7 @@ use Rattle.book.specs.Settled.{added_to}
 use Rattle.book.specs.Books.{partners, weight_sum, zeros, cards, net_of, weight_rows, rows3, rows4, rows9, rows10, with_book, listed_rows}
 use Rattle.book.specs.Cards.{new_card, carded_rows, card_said, card_book, Cards}
 use Rattle.book.specs.Checks.{refused_in, breaks_by, Ready, added_by}
-use Rattle.book.proofs.Told.{same_check}
+use Rattle.book.proofs.Given.{same_check}
 use Rattle.book.proofs.Given.{listed_passed, book_fit, book_settled}
 use Rattle.book.proofs.SettledTotals.{none_at, up_from, place_above, length_added, added_place, not_negative}
 
@@ -73,7 +73,7 @@ module _ (b : Book) (ws : List ℕ) where
       ∙ sym (as_one tests (rows10 b)))
 
   -- what passed
-  pub card_ready : check_of (listed_rows b (breaks_by b.count b.card ws) false) ≡ Passed → Ready b × (length ws ≤ partners)
+  pub card_ready : check_of (listed_rows b (breaks_by b.count b.card ws) false) ≡ Ok tt → Ready b × (length ws ≤ partners)
   unfolding with_book weight_rows
   card_ready e =
       let sound = (listed_passed b (breaks_by b.count b.card ws) false e).0 in
@@ -84,15 +84,15 @@ module _ (b : Book) (ws : List ℕ) where
       (record { some = fit.1; most = fit.2; signs = settled.1; limit = settled.2; further = omega arith }, ltb-false partners (length ws) rows.1.1.1.0)
 
   -- the answers
-  pub card_refused : (refusal : Refusal) → check_of (listed_rows b (breaks_by b.count b.card ws) false) ≡ Refused refusal
-      → Cards b ws (record { outcome = Refused refusal; book = b; payouts = zeros })
+  pub card_refused : (refusal : Refusal) → check_of (listed_rows b (breaks_by b.count b.card ws) false) ≡ Err refusal
+      → Cards b ws (record { outcome = Err refusal; book = b; payouts = zeros })
   unfolding card_said card_book
   card_refused refusal e =
       let said : card_said b ws ≡ refuses (number_of refusal) (blamed_of refusal) = refused (gives (new_card b ws)) (carded_rows b ws) refusal (sym card_check ∙ e) in
       record { outcome = sym said; book = sym (ap (card_book b) said); paid = refl }
 
-  pub card_passed : (next : Book) → check_of (listed_rows b (breaks_by b.count b.card ws) false) ≡ Passed → next ≡ new_card b ws
-      → Cards b ws (record { outcome = Passed; book = next; payouts = zeros })
+  pub card_passed : (next : Book) → check_of (listed_rows b (breaks_by b.count b.card ws) false) ≡ Ok tt → next ≡ new_card b ws
+      → Cards b ws (record { outcome = Ok tt; book = next; payouts = zeros })
   unfolding card_said card_book
   card_passed next e same =
       let said : card_said b ws ≡ gives (new_card b ws) = passed (gives (new_card b ws)) (carded_rows b ws) (sym card_check ∙ e) in

@@ -1,5 +1,6 @@
 -- A given book: what a check of its rows tells, and what is left of a call on a book of which no row holds: its own amount's size and sign,
 -- and the call's last row, at any net total that is within L with the settled totals. Assumes nothing.
+use Rattle.std.specs.Prelude.{Ok}
 use mathlib.Core.Path.{◌≡◌, refl, sym, ap, ◌∙◌}
 use mathlib.Core.Bool.{Bool, true, false}
 use mathlib.Core.List.{List, [], ◌∷◌, ◌++◌}
@@ -8,7 +9,6 @@ use native.Mathlib.Omega.{arith}
 use borrow.Author.Tests.{ltb-false, le-ltb, eq-eqb}
 use lib.IntN.{ℤ, pos}
 use Rattle.refusal.specs.Rows.{Said, Row, row, first_row, check_of}
-use Rattle.refusal.specs.declared.Checked.TheVariants.{Passed}
 use Rattle.refusal.specs.declared.Refusal.TheVariants.{Magnitude, Weights, Negative, Room}
 use Rattle.refusal.proofs.Check.{clear}
 use Rattle.whole.specs.Sums.{sum_of}
@@ -22,9 +22,13 @@ use Rattle.book.specs.Settled.{any_negative, any_over}
 use Rattle.book.specs.Books.{weight_sum, cards, net_of, settled_sum, book_at, weight_rows, rows3, rows4, rows9, rows10, with_book, book_rows, listed_rows}
 use Rattle.book.specs.Moves.{amount_of, move_rows}
 use Rattle.book.proofs.SettledTotals.{limit_by, not_full, not_negative}
-use Rattle.book.proofs.Told.{same_check}
 
 -- rows behind rows: what decides behind decides
+pub same_check : (front rows others : List Row) → check_of rows ≡ check_of others → check_of (front ++ rows) ≡ check_of (front ++ others)
+same_check [] rows others e = e
+same_check (row r true ∷ front) rows others e = refl
+same_check (row r false ∷ front) rows others e = same_check front rows others e
+
 same_first : {A : Type 0} (value : Said A) (front rows others : List Row) → first_row rows value ≡ first_row others value
     → first_row (front ++ rows) value ≡ first_row (front ++ others) value
 same_first value [] rows others e = e
@@ -40,15 +44,15 @@ module _ (b : Book) where
       (same_check (rows10 b) (row Room false ∷ []) [] refl)
 
   -- a book that passes with lists passes alone, and so do they
-  pub listed_passed : (broken short : Bool) → check_of (listed_rows b broken short) ≡ Passed
-      → (check_of (book_rows b) ≡ Passed) × (broken ≡ false) × (short ≡ false)
+  pub listed_passed : (broken short : Bool) → check_of (listed_rows b broken short) ≡ Ok tt
+      → (check_of (book_rows b) ≡ Ok tt) × (broken ≡ false) × (short ≡ false)
   unfolding listed_rows with_book weight_rows
   listed_passed broken short e =
       let rows = (clear (listed_rows b broken short) e).1.1.1.1.1.1.1.1.1.1.1.1 in
       (sym book_alone ∙ (rw (rows.0, rows.1.1.1.0) at e), rows.0, rows.1.1.1.0)
 
   -- its net total, its weights, its card and its settled totals are in their limits
-  module _ (sound : check_of (book_rows b) ≡ Passed) where
+  module _ (sound : check_of (book_rows b) ≡ Ok tt) where
     pub book_fit : (net_of b ≤ largest) × (1 ≤ sum_of b.weights) × (sum_of b.weights ≤ weight_sum)
     unfolding with_book weight_rows
     book_fit =

@@ -1,11 +1,11 @@
 -- Document 01's lines on the book, and Ask 9's, of the definitions. Each computes. Assumes nothing.
+use Rattle.std.specs.Prelude.{Ok}
 use mathlib.Core.Path.{◌≡◌, refl}
 use mathlib.Core.List.{List, [], ◌∷◌, ◌++◌}
 use Prim.Native.Nat.{ℕ, ◌-◌}
 use lib.IntN.{pos}
 use lib.ListN.{length, replicate}
 use Rattle.refusal.specs.Rows.{gives, refuses}
-use Rattle.refusal.specs.declared.Checked.TheVariants.{Passed}
 use Rattle.whole.specs.Sums.{sum_of}
 use Rattle.amount.specs.declared.Amount.{Amount}
 use Rattle.currency.specs.declared.Currency.{Currency}
@@ -63,7 +63,7 @@ next_532 m n = refl
 
 -- the three calls are a history, with answers that the promises allow: paid 6, 4, 2 and taken back 1, 1, 1
 abbrev answer : ℕ → List ℕ → Moved
-answer n payouts = record { outcome = Passed; book = book532 n; payouts = sixteen payouts }
+answer n payouts = record { outcome = Ok tt; book = book532 n; payouts = sixteen payouts }
 
 pub worked : History (book532 0) (book532 9) (sixteen (6 ∷ 4 ∷ 2 ∷ [])) (sixteen (1 ∷ 1 ∷ 1 ∷ []))
 unfolding post_said refund_said move_rows with_book weight_rows above below some_of not_own_digits line_of sum_of next_book paid_of taken_of less_of plus_of totals taker_of best_of may_take due

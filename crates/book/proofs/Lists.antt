@@ -1,16 +1,14 @@
 -- Lists of payouts and of weights: at each place `plus_of` adds, and so do the sums; noughts behind a list of weights change neither its sum
 -- nor what stands past it. Each by induction on the list. Assumes nothing.
-use mathlib.Core.Path.{◌≡◌, refl, sym, ap, ◌∙◌}
+use mathlib.Core.Path.{◌≡◌, refl}
 use mathlib.Core.List.{List, [], ◌∷◌, ◌++◌}
-use Prim.Native.Nat.{ℕ, zero, suc, ◌+◌, ◌-◌, ◌≤◌}
+use Prim.Native.Nat.{ℕ, zero, suc, ◌+◌}
 use native.Mathlib.Nat.{add-zero}
 use native.Mathlib.Omega.{arith}
-use lib.ListN.{length, get_or, drop, replicate, length-append, length-replicate, get_or-append}
-use lib.Seq.{drop-append_seam, get_or-append-add}
+use lib.ListN.{length, get_or, drop, replicate}
+use lib.Seq.{drop-append_seam}
 use Rattle.whole.specs.Sums.{sum_of}
-use Rattle.whole.specs.Lists.{filled}
-use Rattle.whole.proofs.Sums.{sum_noughts, get_d_noughts}
-use Rattle.whole.proofs.Lists.{filled_is}
+use Rattle.whole.proofs.Sums.{sum_noughts}
 use Rattle.book.specs.History.{plus_of}
 
 pub plus_place : (xs ys : List ℕ) (i : ℕ) → get_or (plus_of xs ys) i 0 ≡ get_or xs i 0 + get_or ys i 0
@@ -38,17 +36,3 @@ module _ (l : List ℕ) (n : ℕ) where
 
   pub sum_padding : sum_of (drop (length l) (l ++ replicate n 0)) ≡ 0
   sum_padding = rw drop-append_seam (sum_noughts n)
-
--- a list fills the first of n noughts
-pub padded : (l : List ℕ) (n : ℕ) → length l ≤ n → filled 0 (λ k. get_or l k 0) (length l) (replicate n 0) ≡ l ++ replicate (n - length l) 0
-padded l n h =
-    filled_is 0 (λ k. get_or l k 0) (replicate n 0) 0 (length l) (l ++ replicate (n - length l) 0) (rw (length-append, length-replicate, length-replicate) (omega arith))
-    (λ i b c. absurd (omega arith))
-    (λ i b c. let e : 0 + i ≡ i = omega arith in rw e (sym (get_or-append l (replicate (n - length l) 0) 0 i b)))
-    (λ i b c. get_d_noughts n i ∙ sym (behind i (omega arith)))
-  where
-    behind : (i : ℕ) → length l ≤ i → get_or (l ++ replicate (n - length l) 0) i 0 ≡ 0
-    behind i b =
-        let e : i ≡ length l + (i - length l) = omega arith in
-        ap (λ (k : ℕ). get_or (l ++ replicate (n - length l) 0) k 0) e ∙ get_or-append-add l (replicate (n - length l) 0) (i - length l) 0
-        ∙ get_d_noughts (n - length l) (i - length l)

@@ -1,7 +1,8 @@
 -- Settled totals: what their sums tell of each of them, how the sums grow from the last place down, and what running totals added to them give.
 -- Each by induction on the list. Assumes nothing.
+use Rattle.std.specs.List.{list_any}
 use mathlib.Core.Path.{◌≡◌, refl, sym, ap, ◌∙◌}
-use mathlib.Core.Bool.{Bool, true, false, cond}
+use mathlib.Core.Bool.{Bool, true, false, cond, ◌||◌}
 use mathlib.Core.List.{List, [], ◌∷◌}
 use Prim.Native.Nat.{ℕ, zero, suc, ◌+◌, ◌*◌, ◌^◌, ◌≤◌, ◌<◌}
 use native.Mathlib.Nat.{zero-add}
@@ -84,29 +85,30 @@ module _ (such : ℤ → Bool) where
       go true f = refl
       go false f = f
 
-  -- none from place i on, and not the one before
-  pub none_earlier : (zs : List ℤ) (i : ℕ) → i < length zs → such (get_or zs i (pos 0)) ≡ false → some_of such (drop (suc i) zs) ≡ false
-      → some_of such (drop i zs) ≡ false
-  unfolding some_of
-  none_earlier zs i l here later = rw (drop-cons zs i (pos 0) l, here) later
+-- std's word for the same
+pub same_any : (such : ℤ → Bool) (zs : List ℤ) → list_any such zs ≡ some_of such zs
+unfolding some_of
+same_any such [] = refl
+same_any such (z ∷ zs) = go (such z) (same_any such zs)
+  where
+    go : (x : Bool) → list_any such zs ≡ some_of such zs → (x || list_any such zs) ≡ cond x true (some_of such zs)
+    go true e = refl
+    go false e = e
 
-  pub none_past : (zs : List ℤ) (i : ℕ) → length zs ≤ i → some_of such (drop i zs) ≡ false
-  unfolding some_of
-  none_past zs i h = rw (drop_of_length-le zs {i = i} h)
-
--- the sums from one place earlier on
-module _ (zs : List ℤ) (i : ℕ) where
-  pub above_earlier : i < length zs → above (drop i zs) ≡ above (drop (suc i) zs) + up_of (get_or zs i (pos 0))
+-- the sums from one place earlier on, whose number is x
+module _ (zs : List ℤ) (i : ℕ) (x : ℤ) (here : x ≡ get_or zs i x) where
+  pub above_earlier : i < length zs → above (drop i zs) ≡ above (drop (suc i) zs) + up_of x
   unfolding above
-  above_earlier l = omega (arith, ap above (drop-cons zs i (pos 0) l))
+  above_earlier l = omega (arith, ap above (drop-cons zs i x l), ap up_of here)
 
-  pub below_earlier : i < length zs → below (drop i zs) ≡ below (drop (suc i) zs) + down_of (get_or zs i (pos 0))
+  pub below_earlier : i < length zs → below (drop i zs) ≡ below (drop (suc i) zs) + down_of x
   unfolding below
-  below_earlier l = omega (arith, ap below (drop-cons zs i (pos 0) l))
+  below_earlier l = omega (arith, ap below (drop-cons zs i x l), ap down_of here)
 
-  pub none_behind_end : length zs ≤ i → (above (drop i zs) ≡ 0) × (below (drop i zs) ≡ 0)
-  unfolding above below
-  none_behind_end h = rw (drop_of_length-le zs {i = i} h) (refl, refl)
+-- and past the end
+pub none_behind_end : (zs : List ℤ) (i : ℕ) → length zs ≤ i → (above (drop i zs) ≡ 0) × (below (drop i zs) ≡ 0)
+unfolding above below
+none_behind_end zs i h = rw (drop_of_length-le zs {i = i} h) (refl, refl)
 
 -- within L each: the sums are within as many times L
 sums_within : (zs : List ℤ) → any_over zs ≡ false → (above zs ≤ length zs * largest) × (below zs ≤ length zs * largest)

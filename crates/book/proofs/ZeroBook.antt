@@ -1,6 +1,7 @@
--- A refused opening hands back the book whose every field is 0, and any later call with it is refused with 9 or a lower number: its count
--- is not 1 to 16, which is a row of number 9, and no row in front of that has a greater number. Assumes nothing.
-use mathlib.Core.Path.{◌≡◌, refl, ap, ◌∙◌}
+-- Any call with the book whose every field is 0, which a caller may have in a refused opening's place, is refused with 9 or a lower number: its
+-- count is not 1 to 16, which is a row of number 9, and no row in front of that has a greater number. Assumes nothing.
+use Rattle.std.specs.Prelude.{Result, Ok, Err}
+use mathlib.Core.Path.{◌≡◌, refl}
 use mathlib.Core.Bool.{Bool, true, false}
 use mathlib.Core.List.{List, [], ◌∷◌, ◌++◌}
 use Prim.Native.Nat.{ℕ, ◌≤◌}
@@ -13,11 +14,11 @@ use Rattle.refusal.specs.declared.Refusal.{Refusal}
 use Rattle.refusal.specs.declared.Refusal.TheVariants.{Weights}
 use Rattle.amount.specs.declared.Amount.{Amount}
 use Rattle.currency.specs.declared.Currency.{Currency}
-use Rattle.book.specs.declared.Opened.{Opened}
-use Rattle.book.specs.Settled.{above, below, some_of, any_over, sum_over}
+use Rattle.book.specs.declared.Book.{Book}
+use Rattle.book.specs.Settled.{above, below, some_of}
 use Rattle.book.specs.Books.{unsettled, weight_rows, with_book, listed_rows}
-use Rattle.book.specs.Checks.{given_rows}
-use Rattle.book.specs.Moves.{units_of, move_rows, post_rows, refund_rows, post_said, refund_said, totals_said, zero_book, Opens, open_said, opened_book}
+use Rattle.book.specs.Checks.{size_rows, settled_rows, currency_rows}
+use Rattle.book.specs.Moves.{units_of, move_rows, post_rows, refund_rows, post_said, refund_said, totals_said, zero_book, Opens, open_said}
 use Rattle.book.specs.Cards.{card_said}
 
 -- what a call says is a refusal of number m or a lower one
@@ -38,15 +39,15 @@ stopped value (row s false ∷ front) rows r up = stopped value front rows r up.
 
 -- the rows of an amount and of the book in front of its count
 abbrev front : Amount → List Row
-front a = given_rows a.scale (units_of a) a.currency 0 (any_over unsettled) (sum_over (pos 0 ∷ unsettled)) (record { 0 = 0 })
+front a = size_rows a.scale (units_of a) a.currency 0 ++ (settled_rows (pos 0) unsettled ++ currency_rows a.currency (record { 0 = 0 }))
 
 module _ (a : Amount) where
   pub zero_posting : RefusedBy 9 (post_said zero_book a)
-  unfolding post_said move_rows with_book given_rows weight_rows zero_book
+  unfolding post_said move_rows with_book weight_rows zero_book
   zero_posting = stopped _ (front a) (drop 10 (post_rows zero_book a)) Weights (omega arith)
 
   pub zero_refund : RefusedBy 9 (refund_said zero_book a)
-  unfolding refund_said move_rows with_book given_rows weight_rows zero_book
+  unfolding refund_said move_rows with_book weight_rows zero_book
   zero_refund = stopped _ (front a) (drop 10 (refund_rows zero_book a)) Weights (omega arith)
 
 pub zero_totals : totals_said zero_book ≡ refuses 9 0
@@ -63,7 +64,8 @@ pub zero_card : (ws : List ℕ) → card_said zero_book ws ≡ refuses 9 0
 unfolding card_said with_book weight_rows zero_book above below some_of
 zero_card ws = refl
 
--- it is what a refused opening hands back
-pub refused_opening : (c : Currency) (ws : List ℕ) (r : Opened) (n k : ℕ) → open_said c ws ≡ refuses n k → Opens c ws r → r.book ≡ zero_book
-unfolding opened_book
-refused_opening c ws r n k e p = p.book ∙ ap opened_book e
+-- a refused opening hands back no book, but the refusal
+pub refused_opening : (c : Currency) (ws : List ℕ) (r : Result Book Refusal) (n k : ℕ) → open_said c ws ≡ refuses n k → Opens c ws r
+    → (refusal : Refusal) × (r ≡ Err refusal) × (number_of refusal ≡ n) × (blamed_of refusal ≡ k)
+refused_opening c ws (Ok b) n k e p = let z : ◌≡◌ {A = ℕ} 0 1 = cc in absurd (omega arith)
+refused_opening c ws (Err r) n k e p = (r, refl, cc, cc)

@@ -1,13 +1,12 @@
 -- The rows that the parts of a check look at, by plain numbers: src/checks.rt puts them together. That they are a call's rows is in
 -- proofs/Answered.antt. Assumes nothing.
-use Rattle.std.specs.Prelude.{◌≡◌, Bool, true, false, not, cond, List, [], ◌∷◌, ◌++◌, ℕ, ◌+◌, ◌≤◌, ◌<◌, ltb, eqb, ℤ, pos, length, get_or}
-use Rattle.refusal.specs.Rows.{Row, row, check_of}
-use Rattle.refusal.specs.declared.Checked.{Checked}
-use Rattle.refusal.specs.declared.Checked.TheVariants.{Passed, Refused}
+use Rattle.std.specs.Prelude.{◌≡◌, Bool, true, false, not, cond, List, [], ◌∷◌, ◌++◌, ℕ, ◌+◌, ◌≤◌, ◌<◌, ltb, eqb, ℤ, pos, length, get_or, Result, Ok, Err, ⊤}
+use Rattle.refusal.specs.Rows.{Said, gives, Row, row, first_row, check_of}
 use Rattle.refusal.specs.declared.Refusal.TheVariants.{Scale, Magnitude, Unknown, Differ, Weights, Negative, Room}
 use Rattle.whole.specs.Sums.{sum_of}
-use Rattle.whole.specs.Whole.{magnitude_of}
+use Rattle.whole.specs.Whole.{negative, magnitude_of}
 use Rattle.whole.specs.Lists.{filled}
+use Rattle.amount.specs.declared.Amount.{Amount}
 use Rattle.currency.specs.declared.Currency.{Currency}
 use Rattle.amount.specs.Amounts.{largest, bad_scale, over_l}
 use Rattle.currency.specs.Table.{unknown, differ}
@@ -15,29 +14,28 @@ use Rattle.currency.specs.Digits.{not_own_digits}
 use Rattle.book.specs.declared.Book.{Book}
 use Rattle.book.specs.declared.Past.{Past}
 use Rattle.book.specs.Settled.{above, any_negative, any_over, past_count, sum_over}
+use Rattle.refusal.specs.declared.Refusal.{Refusal}
 use Rattle.book.specs.Books.{partners, weight_sum, cards, net_of, settled_sum, weight_rows, card_rows}
 
--- what is told of settled totals, a count and a net total; only the first where a settled total is over L
-pub record Tells (zs : List ℤ) (count : ℕ) (net : ℤ) (past : Past) : Type 0 where
-  pub over : past.over ≡ any_over zs
-  pub full : any_over zs ≡ false → past.full ≡ sum_over (net ∷ zs)
-  pub behind : any_over zs ≡ false → past.behind ≡ past_count count zs
-  pub negative : any_over zs ≡ false → past.negative ≡ any_negative zs
-  pub sum : past.sum ≡ cond (any_over zs) 0 (above zs)
+-- row 3 at settled totals, beside a net total
+abbrev pub settled_rows : ℤ → List ℤ → List Row
+settled_rows net zs = row Magnitude (any_over zs) ∷ row Magnitude (sum_over (net ∷ zs)) ∷ []
 
--- rows 2 to 5 at an amount (its scale, magnitude and currency) and at a given book (its net total's magnitude, its settled totals and its currency)
-unfoldable pub given_rows : (scale m : ℕ) (currency : Currency) (n : ℕ) (over full : Bool) (own : Currency) → List Row
-given_rows scale m currency n over full own =
-    row Scale (bad_scale scale)
-    ∷ row Scale (not_own_digits currency scale)
-    ∷ row Magnitude (over_l m)
-    ∷ row Magnitude (over_l n)
-    ∷ row Magnitude over
-    ∷ row Magnitude full
-    ∷ row Unknown (unknown currency)
-    ∷ row Unknown (unknown own)
-    ∷ row Differ (differ currency own)
-    ∷ []
+-- what the rows behind need to know of them, beside a count
+abbrev pub past_of : ℕ → List ℤ → Past
+past_of count zs = record { behind = past_count count zs; negative = any_negative zs; sum = above zs }
+
+-- that, or the refusal
+abbrev pub settled_said : ℕ → ℤ → List ℤ → Said Past
+settled_said count net zs = first_row (settled_rows net zs) (gives (past_of count zs))
+
+-- rows 2 and 3 at an amount (its scale, magnitude and currency) and at a net total's magnitude
+abbrev pub size_rows : (scale m : ℕ) (currency : Currency) (n : ℕ) → List Row
+size_rows scale m currency n = row Scale (bad_scale scale) ∷ row Scale (not_own_digits currency scale) ∷ row Magnitude (over_l m) ∷ row Magnitude (over_l n) ∷ []
+
+-- rows 4 and 5 at an amount's currency and at a book's own
+abbrev pub currency_rows : (currency own : Currency) → List Row
+currency_rows currency own = row Unknown (unknown currency) ∷ row Unknown (unknown own) ∷ row Differ (differ currency own) ∷ []
 
 -- row 9 at a given book
 abbrev pub contract_rows : (count : ℕ) (ws : List ℕ) (card : ℕ) (behind : Bool) → List Row
@@ -51,14 +49,21 @@ sign_rows amount net settled = row Negative amount ∷ row Negative net ∷ row 
 abbrev pub last_rows : (broken net settled short : Bool) → List Row
 last_rows broken net settled short = row Weights broken ∷ row Negative net ∷ row Negative settled ∷ row Room short ∷ []
 
--- rows 3 and 4 at a given book
-abbrev pub front_rows : (n : ℕ) (over full : Bool) (own : Currency) → List Row
-front_rows n over full own = row Magnitude (over_l n) ∷ row Magnitude over ∷ row Magnitude full ∷ row Unknown (unknown own) ∷ []
+-- rows 4, 5, 9 and 10 of a posting or a refund
+abbrev pub behind_rows : Book → Past → Amount → List Row
+behind_rows b past a =
+    currency_rows a.currency b.currency
+    ++ (contract_rows b.count b.weights b.card past.behind ++ sign_rows (negative a.coefficient) (negative b.net) past.negative)
+
+-- row 4 at a book with lists, and the rows behind it
+abbrev pub rest_rows : Book → Past → (broken short : Bool) → List Row
+rest_rows b past broken short =
+    row Unknown (unknown b.currency) ∷ (contract_rows b.count b.weights b.card past.behind ++ last_rows broken (negative b.net) past.negative short)
 
 -- a check that refuses
-abbrev pub refused_in : Checked → Bool
-refused_in Passed = false
-refused_in (Refused r) = true
+abbrev pub refused_in : Result ⊤ Refusal → Bool
+refused_in (Ok tt) = false
+refused_in (Err r) = true
 
 -- a new card's list of weights holds row 9
 unfoldable pub breaks_by : (count card : ℕ) → List ℕ → Bool

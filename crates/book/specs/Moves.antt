@@ -1,7 +1,8 @@
 -- Document 01, "The share book": opening, posting, refunding, and the running totals. Who gets which unit is `totals` of `units`.
 -- Cited by `Book::open`, `Book::post`, `Book::refund`, `Book::totals`. Assumes nothing.
-use Rattle.std.specs.Prelude.{◌≡◌, List, [], ◌∷◌, ◌++◌, ℕ, ◌+◌, ◌-◌, ltb, ℤ, pos, length, replicate}
-use Rattle.refusal.specs.Rows.{Said, gives, refuses, means_outcome, Row, row, first_row}
+use Rattle.std.specs.Prelude.{◌≡◌, List, [], ◌∷◌, ◌++◌, ℕ, ◌+◌, ◌-◌, ltb, ℤ, pos, length, replicate, Result}
+use Rattle.refusal.specs.Rows.{Said, gives, refuses, means, means_outcome, Row, row, first_row}
+use Rattle.refusal.specs.declared.Refusal.{Refusal}
 use Rattle.refusal.specs.declared.Refusal.TheVariants.{Scale, Magnitude, Unknown, Differ, Negative, Refund, Limit}
 use Rattle.whole.specs.Whole.{negative, magnitude_of}
 use Rattle.amount.specs.declared.Amount.{Amount}
@@ -12,9 +13,7 @@ use Rattle.currency.specs.Digits.{not_own_digits}
 use Rattle.units.specs.Rule.{totals}
 unfoldable pub use Rattle.running.specs.Totals.{less_of}
 use Rattle.book.specs.declared.Book.{Book}
-use Rattle.book.specs.declared.Opened.{Opened}
 use Rattle.book.specs.declared.Moved.{Moved}
-use Rattle.book.specs.declared.Totals.{Totals}
 use Rattle.book.specs.Books.{partners, zeros, unsettled, settled_sum, book_at, weight_rows, with_book, book_rows}
 pub use Rattle.book.specs.Books.{net_of}
 
@@ -98,23 +97,22 @@ open_rows c ws = row Unknown (unknown c) ∷ weight_rows (length ws) ws
 unfoldable pub open_said : Currency → List ℕ → Said Book
 open_said c ws = first_row (open_rows c ws) (gives (open_book c ws))
 
--- "A refused opening has in the book's place one whose every field is 0"
+-- "A refused opening has in the book's place one whose every field is 0": where a caller has such a place
 unfoldable pub opened_book : Said Book → Book
 opened_book (gives b) = b
 opened_book (refuses number blamed) = zero_book
 
-pub record Opens (c : Currency) (ws : List ℕ) (r : Opened) : Type 0 where
-  pub outcome : means_outcome r.outcome r.book ≡ open_said c ws
-  pub book : r.book ≡ opened_book (open_said c ws)
+abbrev pub Opens : Currency → List ℕ → Result Book Refusal → Type 0
+Opens c ws r = means r ≡ open_said c ws
 
 -- "The running total of a partner at N", of a given book
 unfoldable pub totals_said : Book → Said (List ℕ)
 totals_said b = first_row (book_rows b) (gives (totals b.weights (net_of b)))
 
+-- sixteen zeros in the place of refused ones, where a caller has such a place
 unfoldable pub totals_of : Said (List ℕ) → List ℕ
 totals_of (gives ts) = ts
 totals_of (refuses number blamed) = zeros
 
-pub record Tallies (b : Book) (r : Totals) : Type 0 where
-  pub outcome : means_outcome r.outcome r.totals ≡ totals_said b
-  pub totals : r.totals ≡ totals_of (totals_said b)
+abbrev pub Tallies : Book → Result (List ℕ) Refusal → Type 0
+Tallies b r = means r ≡ totals_said b

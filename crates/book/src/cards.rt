@@ -8,24 +8,23 @@ ghost use Rattle.book.specs.Checks.{breaks_by, Ready, added_by};
 use crate::checks::net_of;
 use crate::weights::{check_list, placed};
 use crate::{Book, Moved};
-use refusal::Checked;
 use running::totals_at;
 use whole::{magnitude, signed};
 
 // The new weights break row 9: another count, no further card, or the rule of an opening's weights.
 #[tactic(auto, unfolding(crate::specs::Checks::breaks_by))]
-fn breaks(count: usize, card: u16, weights: &[u32]) -> bool
+fn breaks(count: u8, card: u16, weights: &[u32]) -> bool
     ensures { result ≡ breaks_by count card weights.now }
 {
-    if weights.len() != count {
+    if weights.len() != usize::from(count) {
         return true;
     }
     if Book::CARDS <= card {
         return true;
     }
     match check_list(weights) {
-        Checked::Refused(_) => true,
-        Checked::Passed => false,
+        Err(_) => true,
+        Ok(()) => false,
     }
 }
 
@@ -34,13 +33,7 @@ fn grown(settled: [i64; Book::PARTNERS], totals: [u64; Book::PARTNERS]) -> [i64;
     requires { (i : ℕ) → magnitude_of (get_or settled i (pos 0)) + get_or totals i 0 ≤ largest }
     ensures { result ≡ added_by settled totals }
 {
-    let mut grown = settled;
-    let mut i = 0;
-    while i < Book::PARTNERS {
-        grown[i] = signed(false, magnitude(settled[i]) + totals[i]);
-        i += 1;
-    }
-    grown
+    std::array::from_fn(|i| signed(false, magnitude(settled[i]) + totals[i]))
 }
 
 // The book on its next card, with these weights: what the old card's partners have is settled.
@@ -48,19 +41,17 @@ fn next_card(book: Book, weights: [u32; Book::PARTNERS]) -> Book
     requires { Ready book }
     ensures { result ≡ card_with book weights }
 {
-    let currency = book.currency;
     let old = book.weights;
     let before = book.settled;
     let totals = totals_at(old, net_of(book));
     let settled = grown(before, totals);
     let card = book.card + 1;
     Book {
-        currency,
-        count: book.count,
         weights,
         net: 0,
         card,
         settled,
+        ..book
     }
 }
 
@@ -69,17 +60,17 @@ impl Book {
     pub fn card(self, weights: &[u32]) -> Moved
         ensures { Cards self weights.now result }
     {
-        let broken = breaks(self.count as usize, self.card, weights);
+        let broken = breaks(self.count, self.card, weights);
         match self.check(broken, false) {
-            Checked::Refused(refusal) => Moved {
-                outcome: Checked::Refused(refusal),
+            Err(refusal) => Moved {
+                outcome: Err(refusal),
                 book: self,
                 payouts: [0; Book::PARTNERS],
             },
-            Checked::Passed => {
+            Ok(()) => {
                 let next = next_card(self, placed(weights));
                 Moved {
-                    outcome: Checked::Passed,
+                    outcome: Ok(()),
                     book: next,
                     payouts: [0; Book::PARTNERS],
                 }

@@ -2,7 +2,7 @@
 #![tactic(auto)]
 
 use currency::Currency;
-use refusal::Checked;
+use refusal::Refusal;
 
 mod cards;
 mod checks;
@@ -33,42 +33,26 @@ impl Book {
     pub const CARDS: u16 = 1_000;
 }
 
-// What the rows of a given book need to know of its settled totals: whether one is over L, whether they and the net total sum to more than L,
-// whether one past the count isn't 0, whether one is negative, and their sum. Where one is over L nothing else is told.
+// What the rows behind row 3 need to know of a book's settled totals: whether one past the count isn't 0, whether one is negative, and their sum.
 #[derive(Clone, Copy)]
 struct Past {
-    over: bool,
-    full: bool,
     behind: bool,
     negative: bool,
     sum: u64,
 }
 
-// Sums of settled totals: of those from 0 on, and of the magnitudes of those below.
+// Sums of settled totals: of those from 0 on, and of the magnitudes of those below. A struct, as both sums come of one pass and always exist.
 #[derive(Clone, Copy)]
 struct Sums {
     above: u64,
     below: u64,
 }
 
-// The answer of an opening: where it is refused, the book's every field is 0.
-#[derive(Clone, Copy)]
-pub struct Opened {
-    pub outcome: Checked,
-    pub book: Book,
-}
-
 // The answer of a posting, a refund or a new card: where it is refused, the given book and sixteen payouts of zero. A new card pays zeros.
+// No Result<_, Refusal>: the promises `Answers` and `Cards` have the book and the payouts of a refused call too.
 #[derive(Clone, Copy)]
 pub struct Moved {
-    pub outcome: Checked,
+    pub outcome: Result<(), Refusal>,
     pub book: Book,
     pub payouts: [u64; Book::PARTNERS],
-}
-
-// The running totals at the book's net total: where they are refused, sixteen zeros.
-#[derive(Clone, Copy)]
-pub struct Totals {
-    pub outcome: Checked,
-    pub totals: [u64; Book::PARTNERS],
 }

@@ -9,18 +9,19 @@ ghost use Rattle.book.specs.Books.{weight_sum, zeros, book_at};
 ghost use Rattle.book.specs.Moves.{less_of, Answers, Posts, Refunds, Tallies};
 
 use crate::checks::{check_post, check_refund, net_of, units_of};
-use crate::{Book, Moved, Totals};
+use crate::{Book, Moved};
 use amount::Amount;
-use refusal::{Checked, Refusal};
+use refusal::Refusal;
 use running::{totals_at, units_between};
 use whole::signed;
 
 // A refused posting or refund: the book that was given, and no payouts.
+#[tactic(auto, unfolding(crate::specs::Moves::next_book))]
 fn refused(book: Book, refusal: Refusal) -> Moved
     ensures { Answers book (refuses (number_of refusal) (blamed_of refusal)) zeros result }
 {
     Moved {
-        outcome: Checked::Refused(refusal),
+        outcome: Err(refusal),
         book,
         payouts: [0; Book::PARTNERS],
     }
@@ -35,7 +36,7 @@ fn moved(book: Book, net: u64, low: u64, high: u64) -> Moved
     let payouts = units_between(weights, low, high);
     let next = book.at_net(signed(false, net));
     Moved {
-        outcome: Checked::Passed,
+        outcome: Ok(()),
         book: next,
         payouts,
     }
@@ -46,17 +47,7 @@ impl Book {
     pub fn at_net(self, net: i64) -> Book
         ensures { result ≡ book_at self net }
     {
-        let currency = self.currency;
-        let weights = self.weights;
-        let settled = self.settled;
-        Book {
-            currency,
-            count: self.count,
-            weights,
-            net,
-            card: self.card,
-            settled,
-        }
+        Book { net, ..self }
     }
 
     // Pays each partner the difference of its running totals at N + A and N.
@@ -64,8 +55,8 @@ impl Book {
         ensures { Posts self amount result }
     {
         match check_post(self, amount) {
-            Checked::Refused(refusal) => refused(self, refusal),
-            Checked::Passed => {
+            Err(refusal) => refused(self, refusal),
+            Ok(()) => {
                 let net = net_of(self);
                 let next = net + units_of(amount);
                 moved(self, next, net, next)
@@ -78,8 +69,8 @@ impl Book {
         ensures { Refunds self amount result }
     {
         match check_refund(self, amount) {
-            Checked::Refused(refusal) => refused(self, refusal),
-            Checked::Passed => {
+            Err(refusal) => refused(self, refusal),
+            Ok(()) => {
                 let net = net_of(self);
                 let next = net - units_of(amount);
                 moved(self, next, next, net)
@@ -88,22 +79,12 @@ impl Book {
     }
 
     // Each partner's running total at N.
-    pub fn totals(self) -> Totals
+    pub fn totals(self) -> Result<[u64; Book::PARTNERS], Refusal>
         ensures { Tallies self result }
     {
-        match self.check(false, false) {
-            Checked::Refused(refusal) => Totals {
-                outcome: Checked::Refused(refusal),
-                totals: [0; Book::PARTNERS],
-            },
-            Checked::Passed => {
-                let weights = self.weights;
-                let totals = totals_at(weights, net_of(self));
-                Totals {
-                    outcome: Checked::Passed,
-                    totals,
-                }
-            },
-        }
+        self.check(false, false)?;
+        let weights = self.weights;
+        let totals = totals_at(weights, net_of(self));
+        Ok(totals)
     }
 }

@@ -2,10 +2,12 @@
 // magnitudes of those below.
 ghost use Rattle.std.specs.Prelude.{◌≡◌, false, cond, drop};
 ghost use Rattle.book.specs.Settled.{up_of, down_of, above, below, any_over};
-ghost use Rattle.book.specs.Checks.{Tells};
+ghost use Rattle.refusal.specs.Rows.{means};
+ghost use Rattle.book.specs.Checks.{settled_said};
 
 use crate::{Book, Past, Sums};
 use amount::Amount;
+use refusal::Refusal;
 use whole::{is_negative, magnitude};
 
 // A number where it is from 0 on, and its magnitude where it is below; 0 else.
@@ -28,58 +30,48 @@ fn down(n: i64) -> u64
 }
 
 // Some settled total has a magnitude over L.
-fn any_over(settled: [i64; Book::PARTNERS]) -> bool
+pub(crate) fn any_over(settled: [i64; Book::PARTNERS]) -> bool
     ensures { result ≡ any_over settled }
 {
-    let mut i = Book::PARTNERS;
-    while 0 < i {
-        i -= 1;
-        if Amount::L < magnitude(settled[i]) {
-            return true;
-        }
-    }
-    false
+    settled.iter().any(|total| Amount::L < magnitude(*total))
 }
 
 // The sums from a place on, from the last place down, so that what is passed is the list's end.
-fn sums_from(settled: [i64; Book::PARTNERS], from: usize) -> Sums
+pub(crate) fn sums_from(settled: [i64; Book::PARTNERS], from: usize) -> Sums
     requires { any_over settled ≡ false }
     ensures { (result.above ≡ above (drop from settled)) × (result.below ≡ below (drop from settled)) }
 {
     let mut above: u64 = 0;
     let mut below: u64 = 0;
-    let mut i = Book::PARTNERS;
-    while from < i {
-        i -= 1;
-        above += up(settled[i]);
-        below += down(settled[i]);
+    for total in settled.iter().skip(from) {
+        above += up(*total);
+        below += down(*total);
     }
     Sums { above, below }
 }
 
-// What is to be known of them beside a count and a net total; they are summed only where none is over L.
-pub(crate) fn past_of(settled: [i64; Book::PARTNERS], count: usize, net: i64) -> Past
-    ensures { Tells settled count net result }
+// Row 3 at the settled totals, and what is to be known of them beside a count; they are summed only where none is over L.
+pub(crate) fn past_of(
+    settled: [i64; Book::PARTNERS],
+    count: usize,
+    net: i64,
+) -> Result<Past, Refusal>
+    ensures { means result ≡ settled_said count net settled }
 {
     if any_over(settled) {
-        return Past {
-            over: true,
-            full: false,
-            behind: false,
-            negative: false,
-            sum: 0,
-        };
+        return Err(Refusal::Magnitude);
     }
     let all = sums_from(settled, 0);
-    let behind = sums_from(settled, count);
     let full = Amount::L + (down(net) + all.below) < up(net) + all.above;
+    if full {
+        return Err(Refusal::Magnitude);
+    }
+    let behind = sums_from(settled, count);
     let past = 0 < behind.above + behind.below;
     let negative = 0 < all.below;
-    Past {
-        over: false,
-        full,
+    Ok(Past {
         behind: past,
         negative,
         sum: all.above,
-    }
+    })
 }

@@ -1,12 +1,11 @@
 -- One call: a posting's or a refund's promise is the call's, by what it is said to be; and a call's number is that of its outcome. Assumes nothing.
+use Rattle.std.specs.Prelude.{Result, Ok, Err, ⊤}
 use mathlib.Core.Path.{◌≡◌, ap, ◌∙◌}
 use mathlib.Core.Bool.{Bool, true, false}
 use mathlib.Core.List.{List}
 use Prim.Native.Nat.{ℕ, ◌*◌}
 use lib.IntN.{ℤ}
 use lib.ListN.{set}
-use Rattle.refusal.specs.declared.Checked.{Checked}
-use Rattle.refusal.specs.declared.Checked.TheVariants.{Passed, Refused}
 use Rattle.refusal.specs.Number.{number_in}
 use Rattle.refusal.specs.Rows.{Said, means_outcome}
 use Rattle.book.specs.declared.Book.{Book}
@@ -14,6 +13,7 @@ use Rattle.book.specs.declared.Moved.{Moved}
 use Rattle.book.specs.Books.{partners}
 use Rattle.book.specs.Moves.{amount_of, Posts, Refunds}
 use Rattle.bulk.specs.Runs.{call_said, call_pays, number_said, written}
+use Rattle.refusal.specs.declared.Refusal.{Refusal}
 use Rattle.bulk.specs.Serving.{Calls, Turned}
 
 module _ (refund : Bool) (b : Book) (c : ℤ) (r : Moved) where
@@ -26,10 +26,10 @@ module _ (refund : Bool) (b : Book) (c : ℤ) (r : Moved) where
   call_refunds e p = rw e p
 
 -- the number of an outcome is that of what it says, whatever the value
-pub number_outcome : {n : ℕ} (o : Checked) (v : ℕ) (said : Said ℕ) → means_outcome o v ≡ said → n ≡ number_in o → n ≡ number_said said
+pub number_outcome : {n : ℕ} (o : Result ⊤ Refusal) (v : ℕ) (said : Said ℕ) → means_outcome o v ≡ said → n ≡ number_in o → n ≡ number_said said
 unfolding number_said
-number_outcome Passed v said e f = f ∙ ap number_said e
-number_outcome (Refused r) v said e f = f ∙ ap number_said e
+number_outcome (Ok tt) v said e f = f ∙ ap number_said e
+number_outcome (Err r) v said e f = f ∙ ap number_said e
 
 -- a call whose payouts and number are written is served; z is the coefficient as the program has it
 pub turned : (b : Book) (refund : Bool) (c z : ℤ) (j : ℕ) (payouts numbers ps : List ℕ) (n : ℕ) (r : Moved) → z ≡ c → Calls refund b z r

@@ -1,12 +1,12 @@
 -- A run from a history is a history again: each call is a posting or a refund, and has an answer that its promise allows. So demand 3 holds
 -- of runs as of single calls. By induction on the calls. Assumes nothing.
+use Rattle.std.specs.Prelude.{Ok, Err}
 use mathlib.Core.Path.{refl}
 use mathlib.Core.Bool.{Bool, true, false, cond}
 use mathlib.Core.List.{List, [], ◌∷◌}
 use Prim.Native.Nat.{ℕ, zero, suc}
 use lib.IntN.{ℤ, pos}
 use lib.ListN.{get_or}
-use Rattle.refusal.specs.declared.Checked.TheVariants.{Passed, Refused}
 use Rattle.refusal.specs.Rows.{gives, Row, row, first_row}
 use Rattle.amount.specs.declared.Amount.{Amount}
 use Rattle.book.specs.declared.Book.{Book}
@@ -21,9 +21,9 @@ use Rattle.bulk.specs.Paid.{paid_after, taken_after}
 answer : (b : Book) (payouts : List ℕ) (v : ℕ) (rows : List Row) → (r : Moved) × Answers b (first_row rows (gives v)) payouts r
 unfolding next_book
 answer b payouts v [] =
-    (record { outcome = Passed; book = next_book b (gives v); payouts = payouts }, record { outcome = refl; book = refl; paid = refl })
+    (record { outcome = Ok tt; book = next_book b (gives v); payouts = payouts }, record { outcome = refl; book = refl; paid = refl })
 answer b payouts v (row x true ∷ rows) =
-    (record { outcome = Refused x; book = b; payouts = payouts }, record { outcome = refl; book = refl; paid = refl })
+    (record { outcome = Err x; book = b; payouts = payouts }, record { outcome = refl; book = refl; paid = refl })
 answer b payouts v (row x false ∷ rows) = answer b payouts v rows
 
 module _ (opened b : Book) (paid taken : List ℕ) (h : History opened b paid taken) where

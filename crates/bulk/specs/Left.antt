@@ -1,8 +1,7 @@
 -- What is left of a call where no row of the book itself holds: the rows of its coefficient alone, by its sign and magnitude m, at net
 -- total n, on a book whose settled totals sum to `settled`. That a call says so is in proofs/Standing.antt. Cited by src/tabled.rt. Assumes nothing.
-use Rattle.std.specs.Prelude.{◌≡◌, Bool, cond, List, [], ◌∷◌, ℕ, ◌+◌, ◌-◌, ◌*◌, ltb, ℤ, set}
+use Rattle.std.specs.Prelude.{◌≡◌, Bool, cond, List, [], ◌∷◌, ℕ, ◌+◌, ◌-◌, ◌*◌, ltb, ℤ, set, Ok}
 use Rattle.refusal.specs.Rows.{Said, gives, refuses, Row, row, first_row, check_of}
-use Rattle.refusal.specs.declared.Checked.TheVariants.{Passed}
 use Rattle.refusal.specs.declared.Refusal.TheVariants.{Magnitude, Negative, Refund, Limit}
 use Rattle.whole.specs.Whole.{negative, magnitude_of}
 use Rattle.amount.specs.Amounts.{over_l}
@@ -14,7 +13,7 @@ use Rattle.bulk.specs.Runs.{number_said, written}
 
 -- no row of the book itself holds
 abbrev pub Sound : Book → Type 0
-Sound b = check_of (book_rows b) ≡ Passed
+Sound b = check_of (book_rows b) ≡ Ok tt
 
 -- rows 3 and 10 at the coefficient, and the last row of a posting or of a refund
 abbrev pub left_rows : Bool → ℕ → Row → List Row

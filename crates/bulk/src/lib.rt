@@ -2,7 +2,7 @@
 #![tactic(auto)]
 
 use book::Book;
-use refusal::Checked;
+use refusal::Refusal;
 
 mod reading;
 mod serving;
@@ -10,9 +10,10 @@ mod tabled;
 mod turns;
 
 // The answer of a run: the last book and how many calls were served; where the run is refused, the given book and none.
+// No Result<_, Refusal>: the promise `Serves` has the book of a refused run too.
 #[derive(Clone, Copy)]
 pub struct Ran {
-    pub outcome: Checked,
+    pub outcome: Result<(), Refusal>,
     pub book: Book,
     pub served: usize,
 }

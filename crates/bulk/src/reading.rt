@@ -24,14 +24,12 @@ pub(crate) fn totals_by(
     let cycles = n / sum;
     let left = n % sum;
     let share = left * (SCALE / sum + 1);
-    let mut bits = table[left as usize] as u64;
+    let mut bits = u64::from(table[left as usize]);
     let mut held: [u64; Book::PARTNERS] = [0; Book::PARTNERS];
-    let mut i = 0;
-    while i < Book::PARTNERS {
-        let weight = weights[i] as u64;
+    for (i, weight) in weights.iter().enumerate() {
+        let weight = u64::from(*weight);
         held[i] = cycles * weight + share * weight / SCALE + bits % 2;
-        bits = bits / 2;
-        i += 1;
+        bits /= 2;
     }
     held
 }

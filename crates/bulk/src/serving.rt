@@ -8,30 +8,20 @@ use crate::Ran;
 use crate::tabled::by_table;
 use crate::turns::one_by_one;
 use book::Book;
-use refusal::Checked;
 use running::sum_from;
 
 // Lists of unequal length.
 fn unequal(calls: usize, coefficients: usize) -> bool
     ensures { result ≡ not (eqb coefficients calls) }
 {
-    if coefficients != calls {
-        return true;
-    }
-    false
+    coefficients != calls
 }
 
 // Too little room; sixteen places for each call are counted by a quotient, which can't wrap.
 fn too_short(calls: usize, payouts: usize, numbers: usize) -> bool
     ensures { result ≡ short calls payouts numbers }
 {
-    if numbers < calls {
-        return true;
-    }
-    if payouts / Book::PARTNERS < calls {
-        return true;
-    }
-    false
+    numbers < calls || payouts / Book::PARTNERS < calls
 }
 
 // So many units of the cycle cost as much as a call by the table spares.
@@ -60,7 +50,7 @@ fn serve(
 // Serves the movements in turn: where `refunds` has true it refunds the coefficient, else it posts it, in the book's currency at its own
 // digits. Call j's payouts go to the sixteen places from 16 x j on, its refusal number, 0 where it is accepted, to place j; a refused
 // call pays zeros and the run goes on. A given book that every call refuses is refused with its number, lists of unequal length with 9,
-// too little room with 11; then nothing is served.
+// too little room with 11; then nothing is served. The lent payouts and numbers are those of the C interface.
 pub fn run(
     book: Book,
     refunds: &[bool],
@@ -74,15 +64,15 @@ pub fn run(
     let broken = unequal(calls, coefficients.len());
     let short = too_short(calls, payouts.len(), numbers.len());
     match book.check(broken, short) {
-        Checked::Refused(refusal) => Ran {
-            outcome: Checked::Refused(refusal),
+        Err(refusal) => Ran {
+            outcome: Err(refusal),
             book,
             served: 0,
         },
-        Checked::Passed => {
+        Ok(()) => {
             let last = serve(book, refunds, coefficients, payouts, numbers);
             Ran {
-                outcome: Checked::Passed,
+                outcome: Ok(()),
                 book: last,
                 served: calls,
             }

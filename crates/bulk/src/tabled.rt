@@ -1,12 +1,12 @@
 // The calls of a run by a table of one cycle, for a book of which no row holds: only the coefficient's own rows are left to look at, and a
 // call's running totals are the next call's.
 ghost use Rattle.std.specs.Prelude.{◌≡◌, ℕ, ◌+◌, ◌*◌, ◌≤◌, ◌<◌, length, get_or};
-ghost use Rattle.refusal.specs.Rows.{gives};
+ghost use Rattle.refusal.specs.Rows.{gives, means};
 ghost use Rattle.amount.specs.Amounts.{largest};
 ghost use Rattle.units.specs.Rule.{totals};
 ghost use Rattle.book.specs.Books.{partners};
 ghost use Rattle.book.specs.Moves.{next_book, less_of};
-ghost use Rattle.bulk.specs.Runs.{written, number_said};
+ghost use Rattle.bulk.specs.Runs.{written};
 ghost use Rattle.bulk.specs.Serving.{Fit, Served};
 ghost use Rattle.bulk.specs.Left.{Sound, left_said, Stepped};
 ghost use Rattle.cycle.specs.Cycle.{Weighed, Cycled};
@@ -19,27 +19,28 @@ use cycle::fill_cycle;
 use refusal::Refusal;
 use whole::{is_negative, magnitude, signed};
 
-// The number of a call of magnitude m at a net total, beside so much that is settled: 0 where it is accepted.
-fn check_call(refund: bool, negative: bool, m: u64, settled: u64, net: u64) -> u8
+// The next net total, after a call of magnitude m at a net total, beside so much that is settled.
+fn next_net(refund: bool, negative: bool, m: u64, settled: u64, net: u64) -> Result<u64, Refusal>
     requires { settled + net ≤ largest }
-    ensures { result ≡ number_said (left_said settled refund negative m net) }
+    ensures { means result ≡ left_said settled refund negative m net }
 {
     if Amount::L < m {
-        return Refusal::Magnitude.number();
+        return Err(Refusal::Magnitude);
     }
     if negative {
-        return Refusal::Negative.number();
+        return Err(Refusal::Negative);
     }
     if refund {
         if net < m {
-            return Refusal::Refund.number();
+            return Err(Refusal::Refund);
         }
+        Ok(net - m)
     } else {
         if Amount::L < settled + (net + m) {
-            return Refusal::Limit.number();
+            return Err(Refusal::Limit);
         }
+        Ok(net + m)
     }
-    0
 }
 
 // The totals at the greater net total less those at the lesser, to the sixteen places from one on.
@@ -48,10 +49,8 @@ fn pay(high: [u64; Book::PARTNERS], low: [u64; Book::PARTNERS], out: &mut [u64],
     requires partners_in_bounds { at + partners ≤ length out.old }
     ensures { out.new ≡ written out.old at (less_of high low) partners }
 {
-    let mut i = 0;
-    while i < Book::PARTNERS {
-        out[at + i] = high[i] - low[i];
-        i += 1;
+    for (i, total) in high.iter().enumerate() {
+        out[at + i] = *total - low[i];
     }
 }
 
@@ -77,22 +76,21 @@ fn step(
 {
     let at = j * Book::PARTNERS;
     let m = magnitude(coefficient);
-    let number = check_call(refund, is_negative(coefficient), m, settled, net);
-    numbers[j] = number;
-    if number != 0 {
-        write(payouts, at, [0; Book::PARTNERS]);
-        return net;
-    }
-    if refund {
-        let next = net - m;
-        let totals = totals_by(weights, sum, table, next);
-        pay(*held, totals, payouts, at);
-        *held = totals;
-        return next;
-    }
-    let next = net + m;
+    let next = match next_net(refund, is_negative(coefficient), m, settled, net) {
+        Ok(next) => next,
+        Err(refusal) => {
+            numbers[j] = refusal.number();
+            write(payouts, at, [0; Book::PARTNERS]);
+            return net;
+        },
+    };
+    numbers[j] = 0;
     let totals = totals_by(weights, sum, table, next);
-    pay(totals, *held, payouts, at);
+    if refund {
+        pay(*held, totals, payouts, at);
+    } else {
+        pay(totals, *held, payouts, at);
+    }
     *held = totals;
     next
 }
@@ -117,13 +115,12 @@ fn by_rows(
     let settled = book.settled_sum();
     let mut net = magnitude(book.net);
     let mut held = totals_by(weights, sum, table, net);
-    let mut j = 0;
-    while j < refunds.len() {
+    for (j, refund) in refunds.iter().enumerate() {
         net = step(
             weights,
             sum,
             table,
-            refunds[j],
+            *refund,
             coefficients[j],
             j,
             settled,
@@ -132,7 +129,6 @@ fn by_rows(
             payouts,
             numbers,
         );
-        j += 1;
     }
     net
 }

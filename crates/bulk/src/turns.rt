@@ -7,6 +7,7 @@ ghost use Rattle.bulk.specs.Serving.{Fit, Calls, Turned, Served};
 use amount::Amount;
 use book::{Book, Moved};
 use currency::line_of;
+use refusal::number_in;
 
 // One call: a refund of the coefficient, or a posting.
 fn call(book: Book, refund: bool, coefficient: i64) -> Moved
@@ -31,11 +32,7 @@ pub(crate) fn write(out: &mut [u64], at: usize, payouts: [u64; Book::PARTNERS])
     requires { at + partners ≤ length out.old }
     ensures { out.new ≡ written out.old at payouts partners }
 {
-    let mut i = 0;
-    while i < Book::PARTNERS {
-        out[at + i] = payouts[i];
-        i += 1;
-    }
+    out[at..at + Book::PARTNERS].copy_from_slice(&payouts);
 }
 
 // Serves call j: its payouts and its number are written, and the next book is handed on.
@@ -54,8 +51,7 @@ fn turn(
     let moved = call(book, refund, coefficient);
     let paid = moved.payouts;
     write(payouts, j * Book::PARTNERS, paid);
-    let outcome = moved.outcome;
-    numbers[j] = outcome.number();
+    numbers[j] = number_in(&moved.outcome);
     moved.book
 }
 
@@ -71,10 +67,8 @@ pub(crate) fn one_by_one(
     ensures { Served book refunds.now coefficients.now payouts.old numbers.old result payouts.new numbers.new }
 {
     let mut last = book;
-    let mut j = 0;
-    while j < refunds.len() {
-        last = turn(last, refunds[j], coefficients[j], j, payouts, numbers);
-        j += 1;
+    for (j, refund) in refunds.iter().enumerate() {
+        last = turn(last, *refund, coefficients[j], j, payouts, numbers);
     }
     last
 }

@@ -1,12 +1,12 @@
 -- The rows of a day count: where none holds the basis is known, the dates exist in order and the count is 366 at most; and where the
 -- dates are in order the count alone decides. Assumes nothing.
+use Rattle.std.specs.Prelude.{Ok}
 use mathlib.Core.Path.{◌≡◌}
 use mathlib.Core.List.{[], ◌∷◌}
 use Prim.Native.Nat.{ℕ, ◌≤◌, ◌<◌}
 use lib.Dec.{ltb}
 use lib.ListN.{length}
 use borrow.Author.Tests.{leb-false, ltb-false, lt-leb, le-ltb, not-false}
-use Rattle.refusal.specs.declared.Checked.TheVariants.{Passed}
 use Rattle.refusal.specs.declared.Refusal.TheVariants.{Days as BadDays}
 use Rattle.refusal.specs.Rows.{gives, row, first_row, check_of}
 use Rattle.refusal.proofs.Check.{clear}
@@ -19,7 +19,7 @@ pub record Counted (basis : ℕ) (start end : Date) : Type 0 where
   pub dates : InOrder start end
   pub count : (basis_of basis).count start end ≤ 366
 
-pub counted : (basis : ℕ) (start end : Date) → check_of (days_rows basis start end) ≡ Passed → Counted basis start end
+pub counted : (basis : ℕ) (start end : Date) → check_of (days_rows basis start end) ≡ Ok tt → Counted basis start end
 unfolding days_rows
 counted basis start end e =
     let rows = clear (days_rows basis start end) e in

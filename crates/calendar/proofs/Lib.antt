@@ -9,6 +9,7 @@ pub mod Thirty
 pub mod TwoRules
 pub mod Bases
 pub mod DaysRows
+pub mod BasisNumbers
 pub mod Unique
 pub mod ExactlyWhen
 pub mod Lines

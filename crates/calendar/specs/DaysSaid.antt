@@ -1,20 +1,12 @@
 -- Document 01, "Refusal numbers", rows 6 (as document 02, Ask 2, has it), 7 and 8 at a day count, and its value.
 -- Cited by `day_count` and `interest`. Assumes nothing.
 use Rattle.std.specs.Prelude.{◌≡◌, Bool, true, not, List, [], ◌∷◌, ℕ, ◌≤◌, leb, ltb, length}
-use Rattle.refusal.specs.Number.{number_of, blamed_of}
-use Rattle.refusal.specs.Rows.{Said, gives, refuses, Row, row, first_row}
+use Rattle.refusal.specs.Rows.{Said, gives, Row, row, first_row}
 use Rattle.refusal.specs.declared.Blamed.TheVariants.{First, Second}
 use Rattle.refusal.specs.declared.Refusal.TheVariants.{Rate, Date as BadDate, Days as BadDays}
 use Rattle.calendar.specs.declared.Date.{Date}
-use Rattle.calendar.specs.declared.DayCount.{DayCount}
-use Rattle.calendar.specs.declared.DayCount.TheVariants.{Days, Refused}
 use Rattle.calendar.specs.Calendar.{exists}
 use Rattle.calendar.specs.DayCount.{day_of, bases, basis_of}
-
--- what each case of the answer says
-abbrev pub means_days : DayCount → Said ℕ
-means_days (Days n) = gives n
-means_days (Refused r) = refuses (number_of r) (blamed_of r)
 
 abbrev pub date_exists : Date → Bool
 date_exists d = exists d.year d.month d.day

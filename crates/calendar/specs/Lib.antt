@@ -3,3 +3,4 @@ pub mod CalendarOrder
 pub mod DayCount
 pub mod DaysSaid
 pub mod Counting
+pub mod Numbered

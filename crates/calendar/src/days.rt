@@ -1,15 +1,14 @@
 // The days between two dates by a basis.
 ghost use Rattle.std.specs.Prelude.{◌≡◌};
+ghost use Rattle.refusal.specs.Rows.{means};
 ghost use Rattle.calendar.specs.DayCount.{clipped, american, difference, basis_of};
-ghost use Rattle.calendar.specs.DaysSaid.{means_days, days_said};
+ghost use Rattle.calendar.specs.DaysSaid.{days_said};
 ghost use Rattle.calendar.specs.Counting.{Numbered, Read};
+ghost use Rattle.calendar.specs.Numbered.{number_of};
 
 use crate::dates::{date_exists, day_number};
-use crate::{Date, DayCount};
+use crate::{Basis, Date};
 use refusal::{Blamed, Refusal};
-
-// How many bases there are.
-const BASES: u8 = 4;
 
 // A day 31 becomes 30.
 fn clip(day: u8) -> u8
@@ -37,38 +36,43 @@ fn thirty_days(start: Date, end: Date, second: u8) -> u32
 }
 
 // The day count of the basis, by the day numbers of the two dates.
-fn count_of(basis: u8, start: Date, end: Date, from: u32, to: u32) -> u32
+fn count_of(basis: Basis, start: Date, end: Date, from: u32, to: u32) -> u32
     requires { Numbered start end from to }
-    ensures { result ≡ (basis_of basis).count start end }
+    ensures { result ≡ (basis_of (number_of basis)).count start end }
 {
     match basis {
-        2 => thirty_days(start, end, american_day(clip(start.day), end.day)),
-        3 => thirty_days(start, end, clip(end.day)),
-        _ => to - from,
+        Basis::Actual360 | Basis::Actual365 => to - from,
+        Basis::American => thirty_days(start, end, american_day(clip(start.day), end.day)),
+        Basis::European => thirty_days(start, end, clip(end.day)),
     }
 }
 
-// The days from the start to the end by the basis, or the refusal 6, 7 or 8: the rows in the table's order.
-pub fn day_count(basis: u8, start: Date, end: Date) -> DayCount
-    ensures { means_days result ≡ days_said basis start end }
+// The days from the start to the end by a basis, or the refusal 7 or 8: the rows in the table's order.
+pub fn days_between(basis: Basis, start: Date, end: Date) -> Result<u32, Refusal>
+    ensures { means result ≡ days_said (number_of basis) start end }
 {
-    if BASES <= basis {
-        return DayCount::Refused(Refusal::Rate);
-    }
     if !date_exists(start) {
-        return DayCount::Refused(Refusal::Date(Blamed::First));
+        return Err(Refusal::Date(Blamed::First));
     }
     if !date_exists(end) {
-        return DayCount::Refused(Refusal::Date(Blamed::Second));
+        return Err(Refusal::Date(Blamed::Second));
     }
     let from = day_number(start);
     let to = day_number(end);
     if to < from {
-        return DayCount::Refused(Refusal::Days);
+        return Err(Refusal::Days);
     }
     let days = count_of(basis, start, end, from, to);
     if 366 < days {
-        return DayCount::Refused(Refusal::Days);
+        return Err(Refusal::Days);
     }
-    DayCount::Days(days)
+    Ok(days)
+}
+
+// The same by the number of a basis, or the refusal 6, 7 or 8.
+pub fn day_count(basis: u8, start: Date, end: Date) -> Result<u32, Refusal>
+    ensures { means result ≡ days_said basis start end }
+{
+    let basis = Basis::try_from(basis)?;
+    days_between(basis, start, end)
 }

@@ -5,6 +5,7 @@ use refusal::Refusal;
 
 mod dates;
 mod days;
+mod numbering;
 
 #[derive(Clone, Copy)]
 pub struct Date {
@@ -13,12 +14,18 @@ pub struct Date {
     pub day: u8,
 }
 
-// The answer of a day count.
-#[derive(Clone, Copy)]
-pub enum DayCount {
-    Days(u32),
-    Refused(Refusal),
+// How the days between two dates are counted, and how many a year has.
+#[derive(Clone, Copy, PartialEq, Eq)]
+pub enum Basis {
+    // the actual days, of a year of 360
+    Actual360,
+    // the actual days, of a year of 365
+    Actual365,
+    // 30/360 by the American rule
+    American,
+    // 30/360 by the European rule
+    European,
 }
 
 pub use dates::date_exists;
-pub use days::day_count;
+pub use days::{day_count, days_between};

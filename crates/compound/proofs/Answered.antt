@@ -1,23 +1,18 @@
 -- From the check and the rows to the answer of `compound`: a refusal leaves the list as it stood, else the rows stand in front. Assumes nothing.
+use Rattle.std.specs.Prelude.{Result, Ok, Err, ⊤}
 use mathlib.Core.Path.{◌≡◌, refl, sym, ◌∙◌, ap}
 use mathlib.Core.Bool.{true, false}
 use mathlib.Core.List.{List, [], ◌∷◌}
-use Prim.Native.Nat.{ℕ, ◌≤◌}
-use borrow.Author.Tests.{ltb-false}
+use Prim.Native.Nat.{ℕ}
 use lib.IntN.{ℤ}
 use lib.ListN.{length}
 use Rattle.refusal.specs.declared.Refusal.{Refusal}
-use Rattle.refusal.specs.declared.Checked.{Checked}
-use Rattle.refusal.specs.declared.Checked.TheVariants.{Passed, Refused}
 use Rattle.refusal.specs.Rows.{Said, gives, Row, row, first_row, check_of, means_outcome}
-use Rattle.refusal.proofs.Check.{clear}
 use Rattle.refusal.proofs.Joined.{front_refused, front_passed}
 use Rattle.whole.specs.Whole.{negative, magnitude_of}
 use Rattle.amount.specs.declared.Amount.{Amount}
-use Rattle.amount.specs.Amounts.{largest}
-use Rattle.balances.specs.Rule.{points}
-use Rattle.compound.specs.Table.{most_periods, row_count, taken_rows, made_rows, table_rows, table_said, list_after}
-use Rattle.compound.specs.Parts.{Grows, Writes}
+use Rattle.compound.specs.Table.{row_count, taken_rows, made_rows, table_rows, table_said, list_after}
+use Rattle.compound.specs.Parts.{Writes}
 
 outcome_said : {A : Type 0} (value : A) (rows : List Row) → means_outcome (check_of rows) value ≡ first_row rows (gives value)
 outcome_said value [] = refl
@@ -31,29 +26,21 @@ module _ (a : Amount) (rate periods : ℕ) (out : List ℤ) where
   abbrev pub taken : List Row
   taken = taken_rows a.scale principal a.currency (negative a.coefficient) rate periods (length out)
 
-  abbrev pub Answers : Checked → List ℤ → Type 0
+  abbrev pub Answers : Result ⊤ Refusal → List ℤ → Type 0
   Answers r after =
       (means_outcome r (row_count periods) ≡ table_said a rate periods (length out)) × (after ≡ list_after principal rate (table_said a rate periods (length out)) out)
 
-  answers : (r : Checked) (after : List ℤ) → r ≡ check_of (table_rows a rate periods (length out))
+  answers : (r : Result ⊤ Refusal) (after : List ℤ) → r ≡ check_of (table_rows a rate periods (length out))
       → after ≡ list_after principal rate (means_outcome r (row_count periods)) out → Answers r after
   unfolding table_said
   answers r after is put =
-      let same = ap (λ (x : Checked). means_outcome x (row_count periods)) is ∙ outcome_said (row_count periods) (table_rows a rate periods (length out)) in
+      let same = ap (λ (x : Result ⊤ Refusal). means_outcome x (row_count periods)) is ∙ outcome_said (row_count periods) (table_rows a rate periods (length out)) in
       (same, put ∙ ap (λ (s : Said ℕ). list_after principal rate s out) same)
 
-  pub answers_refused : (x : Refusal) → check_of taken ≡ Refused x → Answers (Refused x) out
+  pub answers_refused : (x : Refusal) → check_of taken ≡ Err x → Answers (Err x) out
   unfolding list_after
-  answers_refused x e = answers (Refused x) out (sym (front_refused taken (made_rows principal rate (row_count periods)) x e)) refl
+  answers_refused x e = answers (Err x) out (sym (front_refused taken (made_rows principal rate (row_count periods)) x e)) refl
 
-  pub answers_written : (r : Checked) (after : List ℤ) → check_of taken ≡ Passed → Writes principal rate (row_count periods) out r after → Answers r after
+  pub answers_written : (r : Result ⊤ Refusal) (after : List ℤ) → check_of taken ≡ Ok tt → Writes principal rate (row_count periods) out r after → Answers r after
   answers_written r after e written =
       answers r after (written.said ∙ sym (front_passed taken (made_rows principal rate (row_count periods)) e)) written.put
-
-  -- what passed may grow, and has room
-  pub fits : check_of taken ≡ Passed → Grows principal rate × ((periods ≤ most_periods) × (row_count periods ≤ length out))
-  fits e =
-      let none = clear taken e in (
-        record { within = ltb-false largest principal none.1.0; most = ltb-false points rate none.1.1.1.0 },
-        (ltb-false most_periods periods none.1.1.1.1.0, ltb-false (length out) (row_count periods) none.1.1.1.1.1.1.0),
-      )

@@ -1,15 +1,14 @@
 -- What the functions below `compound` hand on: a list filled with the rows, and the output that it is copied to. Assumes nothing.
+use Rattle.std.specs.Prelude.{Result, Ok, Err, ⊤}
 use mathlib.Core.Path.{◌≡◌, refl, sym, ◌∙◌, ap}
 use mathlib.Core.Bool.{false}
 use mathlib.Core.List.{List}
-use Prim.Native.Nat.{ℕ, zero, suc, ◌≤◌, ◌<◌}
+use Prim.Native.Nat.{ℕ, zero, suc, ◌<◌}
 use native.Mathlib.Omega.{arith}
 use lib.IntN.{ℤ, pos}
 use lib.ListN.{length, get_or}
 use Rattle.refusal.specs.declared.Refusal.{Refusal}
 use Rattle.refusal.specs.declared.Refusal.TheVariants.{Limit}
-use Rattle.refusal.specs.declared.Checked.{Checked}
-use Rattle.refusal.specs.declared.Checked.TheVariants.{Passed, Refused}
 use Rattle.refusal.proofs.Check.{clear}
 use Rattle.whole.specs.Lists.{filled}
 use Rattle.whole.proofs.Lists.{length_filled, filled_inside}
@@ -26,21 +25,21 @@ filled_same from f g xs zero same = refl
 filled_same from f g xs (suc n) same = rw (filled_same from f g xs n (λ k h. same k (omega arith)), same n (omega arith))
 
 module _ (p r : ℕ) (before after : List ℕ) where
-  pub fills_not : (i b : ℕ) → i < length before → b ≡ balance_at p r i → largest < b → Fills p r before (Refused Limit) after
+  pub fills_not : (i b : ℕ) → i < length before → b ≡ balance_at p r i → largest < b → Fills p r before (Err Limit) after
   fills_not i b h is more =
       record {
         said = rw (over_row p r (length before) i b h is more);
         put = λ e. let z : ◌≡◌ {A = ℕ} 0 1 = cc in absurd (omega arith);
       }
 
-  module _ (checked : Checked) (fills : Fills p r before checked after) where
+  module _ (checked : Result ⊤ Refusal) (fills : Fills p r before checked after) where
     -- where a row is over L the output stays
-    pub writes_not : (out : List ℤ) (x : Refusal) → checked ≡ Refused x → Writes p r (length before) out (Refused x) out
+    pub writes_not : (out : List ℤ) (x : Refusal) → checked ≡ Err x → Writes p r (length before) out (Err x) out
     unfolding list_after
     writes_not out x e = record { said = sym e ∙ fills.said; put = refl }
 
     -- else each row is within L and stands in its place
-    module _ (passed : checked ≡ Passed) where
+    module _ (passed : checked ≡ Ok tt) where
       put : after ≡ filled 0 (balance_at p r) (length before) before
       put = fills.put passed
 
@@ -56,11 +55,10 @@ module _ (p r : ℕ) (before after : List ℕ) where
       none : any_over p r (length before) ≡ false
       none = (clear (made_rows p r (length before)) (sym fills.said ∙ passed)).0
 
-      pub ready : (room : ℕ) → length before ≤ room → Within after × (length after ≤ room)
-      ready room h =
-          (λ i below. omega (arith, row_at i (omega (arith, long)), all_within p r (length before) none i (omega (arith, long))), omega (arith, long))
+      pub ready : Within after
+      ready i below = omega (arith, row_at i (omega (arith, long)), all_within p r (length before) none i (omega (arith, long)))
 
-      pub writes_all : (out written : List ℤ) → written ≡ filled 0 (λ n. pos (get_or after n 0)) (length after) out → Writes p r (length before) out Passed written
+      pub writes_all : (out written : List ℤ) → written ≡ filled 0 (λ n. pos (get_or after n 0)) (length after) out → Writes p r (length before) out (Ok tt) written
       unfolding list_after
       writes_all out written copied =
           record {

@@ -3,6 +3,7 @@
 #![tactic(auto)]
 
 use intake::Intake;
+use page::Page;
 
 mod feeds;
 mod outs;
@@ -22,10 +23,10 @@ pub struct Feed {
     pub failed: bool,
 }
 
-// The output: how many bytes wait in a buffer to be written.
-#[derive(Clone, Copy)]
-pub struct Waiting {
-    pub at: usize,
+// The output: a page whose text waits to be written.
+#[derive(Drop)]
+pub struct Output<'a> {
+    pub page: Page<'a>,
     // writing failed
     pub failed: bool,
 }
@@ -35,13 +36,6 @@ pub struct Waiting {
 pub enum Stream<I, F> {
     Standard(I),
     Named(F),
-}
-
-// Where a program reads from: a stream, or nowhere, and then the status that it ends with.
-#[derive(Drop)]
-pub enum Source<I, F> {
-    From(Stream<I, F>),
-    Nowhere(u8),
 }
 
 // The first word of a line.
@@ -97,7 +91,6 @@ pub const FAILED: u8 = 3;
 pub const BLEMISHED: u8 = 4;
 
 pub use feeds::{first_feed, next_cut, refill};
-pub use outs::{make_room, put_named, write_out};
 pub use said::{say, say_failed};
 pub use starts::{end_with, open_first, open_source, path_text, read_path};
 pub use verbs::{form_of, same, takes, verb_of};

@@ -1,53 +1,45 @@
-// The output: bytes wait in a buffer, and are written where there is no room for more and at the end.
-ghost use Rattle.std.specs.Prelude.{◌≡◌, false, ◌+◌, ◌≤◌, length};
-ghost use Rattle.lines.specs.Texts.{put_at, place_behind, text_of};
+// The output: bytes wait on a page, and are written where there is no room for more and at the end.
+ghost use Rattle.std.specs.Prelude.{◌≡◌, ◌+◌, ◌≤◌, length};
 
-use crate::Waiting;
+use crate::Output;
 use crate::said::say_failed;
-use lines::{put_bytes, put_number};
+use page::Page;
 
-// Writes the bytes that wait, so that none does.
-pub fn write_out(rt: &(impl Print + Eprint), out: &[u8], waiting: Waiting) -> Waiting
-    ensures { result.at ≡ 0 }
-{
-    let at = waiting.at;
-    if out.len() < at {
-        return Waiting {
-            at: 0,
-            failed: true,
-        };
-    }
-    if let Err(error) = rt.write_all(&out[0..at]) {
-        say_failed(rt, "write", error);
-        return Waiting {
-            at: 0,
-            failed: true,
-        };
-    }
-    Waiting {
-        at: 0,
-        failed: waiting.failed,
-    }
-}
-
-// Makes room for so many bytes more, where the buffer has it: where too little is left, those that wait are written.
-pub fn make_room(rt: &(impl Print + Eprint), out: &[u8], waiting: Waiting, room: usize) -> Waiting
-    ensures { room ≤ length out.now → result.at + room ≤ length out.now }
-{
-    let at = waiting.at;
-    if at <= out.len() {
-        if room <= out.len() - at {
-            return waiting;
+impl<'a> Output<'a> {
+    // Nothing waits in the buffer yet.
+    pub fn new(bytes: &'a mut [u8]) -> Output<'a>
+        ensures bytes { result.page.bytes ≡ bytes.entry }
+        ensures at { result.page.at ≡ 0 }
+    {
+        Output {
+            page: Page::new(bytes),
+            failed: false,
         }
     }
-    write_out(rt, out, waiting)
-}
 
-// Words and a number behind them, at a place; the place behind both.
-pub fn put_named(out: &mut [u8], at: usize, words: &[u8], n: u64) -> usize
-    ensures out_after { out.new ≡ put_at (put_at out.old at words.now) (place_behind out.old at words.now) (text_of false n) }
-    ensures value { result ≡ place_behind (put_at out.old at words.now) (place_behind out.old at words.now) (text_of false n) }
-{
-    let behind = put_bytes(out, at, words);
-    put_number(out, behind, false, n)
+    // Writes the bytes that wait, so that none does.
+    pub fn write_out(&mut self, rt: &(impl Print + Eprint))
+        ensures bytes { self.new.page.bytes.now ≡ self.old.page.bytes.now }
+        ensures at { self.new.page.at ≡ 0 }
+    {
+        if let Err(error) = rt.write_all(self.page.text()) {
+            say_failed(rt, "write", error);
+            self.failed = true;
+        }
+        self.page.at = 0;
+    }
+
+    // Makes room for so many bytes more, where the buffer has it: where too little is left, those that wait are written.
+    pub fn make_room(&mut self, rt: &(impl Print + Eprint), room: usize)
+        ensures bytes { self.new.page.bytes.now ≡ self.old.page.bytes.now }
+        ensures room { room ≤ length self.old.page.bytes.now → self.new.page.at + room ≤ length self.old.page.bytes.now }
+    {
+        let at = self.page.at;
+        if at <= self.page.bytes.len() {
+            if room <= self.page.bytes.len() - at {
+                return;
+            }
+        }
+        self.write_out(rt);
+    }
 }

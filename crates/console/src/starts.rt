@@ -4,13 +4,13 @@ ghost use Rattle.console.specs.Sources.{end_of};
 
 use crate::said::{say, say_failed};
 use crate::verbs::same;
-use crate::{FAILED, MISUSED, PATH, Source, Stream};
+use crate::{FAILED, MISUSED, PATH, Stream};
 use std::env::FillError;
-use std::fs;
 use std::fs::File;
-use std::io::{Result, Write};
+use std::io::Write;
 use std::rt::{Env, Files};
 use std::str::from_utf8;
+use std::{fs, io};
 
 // Descriptor 3 by its name.
 const STATUS: &str = "/proc/self/fd/3";
@@ -64,31 +64,34 @@ pub fn path_text<'a>(rt: &impl Eprint, path: &'a [u8]) -> Option<&'a str>
 }
 
 // The file of a path.
-fn open_path<R: Files + Input + Eprint>(rt: &R, path: &[u8]) -> Source<R::Reader, R::File>
+fn open_path<R: Files + Input + Eprint>(
+    rt: &R,
+    path: &[u8],
+) -> Result<Stream<R::Reader, R::File>, u8>
     ensures { (2 ≤ end_of result) × (end_of result ≤ 3) }
 {
     let Some(text) = path_text(rt, path) else {
-        return Source::Nowhere(FAILED);
+        return Err(FAILED);
     };
     match fs::open(rt, text) {
-        Ok(file) => Source::From(Stream::Named(file)),
+        Ok(file) => Ok(Stream::Named(file)),
         Err(error) => {
             say_failed(rt, text, error);
-            Source::Nowhere(FAILED)
+            Err(FAILED)
         },
     }
 }
 
 // The file that the first argument names; `-` is standard input.
-fn open_file<R: Files + Env + Input + Eprint>(rt: &R) -> Source<R::Reader, R::File>
+fn open_file<R: Files + Env + Input + Eprint>(rt: &R) -> Result<Stream<R::Reader, R::File>, u8>
     ensures { (2 ≤ end_of result) × (end_of result ≤ 3) }
 {
     let mut path = [0u8; PATH];
     let Some(length) = read_path(rt, 1, &mut path) else {
-        return Source::Nowhere(FAILED);
+        return Err(FAILED);
     };
     if same(&path[..length], b"-") {
-        return Source::From(Stream::Standard(rt.reader()));
+        return Ok(Stream::Standard(rt.reader()));
     }
     open_path(rt, &path[..length])
 }
@@ -99,28 +102,30 @@ pub fn open_first<R: Files + Env + Input + Eprint>(
     rt: &R,
     count: usize,
     usage: &[u8],
-) -> Source<R::Reader, R::File>
+) -> Result<Stream<R::Reader, R::File>, u8>
     ensures { (2 ≤ end_of result) × (end_of result ≤ 3) }
 {
     if count_words(rt) == count {
         return open_file(rt);
     }
     say(rt, usage);
-    Source::Nowhere(MISUSED)
+    Err(MISUSED)
 }
 
 // What the program reads; where there is nothing to read, it ends with status 2 or 3.
-pub fn open_source<R: Files + Env + Input + Eprint>(rt: &R) -> Source<R::Reader, R::File>
+pub fn open_source<R: Files + Env + Input + Eprint>(
+    rt: &R,
+) -> Result<Stream<R::Reader, R::File>, u8>
     ensures { (2 ≤ end_of result) × (end_of result ≤ 3) }
 {
     if count_words(rt) < 2 {
-        return Source::From(Stream::Standard(rt.reader()));
+        return Ok(Stream::Standard(rt.reader()));
     }
     open_first(rt, 2, b"one argument at most: the file to read\n")
 }
 
 // Writes the digit behind what the descriptor's file has, where it is open to be written. One that is only read may be the user's own, and is left alone.
-fn write_digit(rt: &impl Files, digit: u8) -> Result<()> {
+fn write_digit(rt: &impl Files, digit: u8) -> io::Result<()> {
     if fs::symlink_metadata(rt, STATUS)?.permissions().readonly() {
         return Ok(());
     }
@@ -133,9 +138,9 @@ pub fn end_with(rt: &impl Files, status: u8) -> u8
     ensures { status < 10 → result ≡ 48 + status }
 {
     if 9 < status {
-        return 48;
+        return b'0';
     }
-    let digit = 48 + status;
+    let digit = b'0' + status;
     let _ = write_digit(rt, digit);
     digit
 }

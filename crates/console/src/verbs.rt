@@ -1,5 +1,5 @@
 // The words that a line may begin with, and how many numbers stand behind each.
-ghost use Rattle.std.specs.Prelude.{◌≡◌, ◌&&◌, ◌||◌, eqb, leb};
+ghost use Rattle.std.specs.Prelude.{◌≡◌};
 ghost use Rattle.console.specs.Verbs.{same_bytes, of_four, of_five, of_six, of_seven, of_eight, of_others, verb_of, form_of, takes_of};
 
 use crate::Verb;
@@ -12,6 +12,7 @@ pub fn same(word: &[u8], other: &[u8]) -> bool
     word == other
 }
 
+// Each word is compared by itself: of words of six letters and more the proof of one match of patterns did not close.
 fn of_four(word: &[u8]) -> Verb
     ensures { result ≡ of_four word.now }
 {
@@ -136,6 +137,7 @@ fn of_others(word: &[u8]) -> Verb
 }
 
 // The verb that a word is: it is looked for among those of its length.
+#[tactic(auto, unfolding(crate::specs::Verbs::verb_of))]
 pub fn verb_of(word: &[u8]) -> Verb
     ensures { result ≡ verb_of word.now }
 {
@@ -193,41 +195,18 @@ pub fn form_of(verb: Verb) -> Form
     }
 }
 
-// Whether a count is one of two.
-fn is_either(count: usize, few: usize, more: usize) -> bool
-    ensures { result ≡ (eqb count few || eqb count more) }
-{
-    if count == few {
-        return true;
-    }
-    count == more
-}
-
-// Whether a refund takes so many numbers: a reason code from 0 to 99 may stand behind its amount.
-fn takes_refund(count: usize, fourth: u8) -> bool
-    ensures { result ≡ (eqb count 3 || (eqb count 4 && leb fourth 99)) }
-{
-    if count == 3 {
-        return true;
-    }
-    if count == 4 {
-        return fourth <= 99;
-    }
-    false
-}
-
 // Whether a verb takes so many numbers, of which the fourth is given: a quotient's second factor, a conversion's decimals and a refund's reason may be
 // left out, and a share, vouchers, an opening, a card and the lists of a statement take any count.
 pub fn takes(verb: Verb, count: usize, fourth: u8) -> bool
     ensures { result ≡ takes_of verb count fourth }
 {
     match verb {
-        Verb::Round => is_either(count, 3, 4),
+        Verb::Round => count == 3 || count == 4,
         Verb::Sum => count == 6,
         Verb::Order => count == 6,
         Verb::Negate => count == 3,
         Verb::Rescale => count == 5,
-        Verb::Convert => is_either(count, 4, 5),
+        Verb::Convert => count == 4 || count == 5,
         Verb::Interest => count == 12,
         Verb::TaxNet => count == 5,
         Verb::TaxGross => count == 5,
@@ -239,7 +218,7 @@ pub fn takes(verb: Verb, count: usize, fourth: u8) -> bool
         Verb::Compound => count == 6,
         Verb::Open => 1 <= count,
         Verb::Post => count == 3,
-        Verb::Refund => takes_refund(count, fourth),
+        Verb::Refund => count == 3 || (count == 4 && fourth <= 99),
         Verb::Totals => count == 0,
         Verb::Card => true,
         Verb::Settled => count == 0,

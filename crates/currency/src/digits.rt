@@ -6,6 +6,7 @@ use crate::Currency;
 use crate::table::line_of;
 
 // An amount in a known currency isn't at its own digits.
+#[tactic(auto, unfolding(crate::specs::Digits::not_own_digits))]
 pub fn not_own_digits(currency: Currency, scale: u8) -> bool
     ensures { result ≡ not_own_digits currency scale }
 {

@@ -4,6 +4,7 @@
 mod digits;
 mod table;
 
+// No enum: any number may come in, and one over 20 is refused with 4, by promise.
 // A currency number, 0 to 20: a kind of its own, so that scales, modes and currencies can't be mixed.
 #[derive(Clone, Copy)]
 pub struct Currency(pub u8);

@@ -6,6 +6,7 @@ ghost use Rattle.currency.specs.Tens.{power_of_ten};
 use crate::{Currency, Line};
 
 // The line of a currency number; a number that the table doesn't have reads 0.
+#[tactic(auto, unfolding(crate::specs::Table::line_of))]
 pub fn line_of(currency: Currency) -> Line
     ensures { result ≡ line_of currency }
 {
@@ -147,6 +148,7 @@ pub fn line_of(currency: Currency) -> Line
 }
 
 // 10^k for k up to 12, and 0 past it.
+#[tactic(auto, unfolding(crate::specs::Tens::power_of_ten))]
 pub fn power_of_ten(k: u8) -> u64
     ensures { result ≡ power_of_ten k }
 {

@@ -17,7 +17,7 @@ use Rattle.running.proofs.Fitting.{due_early}
 use Rattle.cycle.specs.Cycle.{Weighed, Walks}
 use Rattle.cycle.proofs.Bounds.{some_weight, weight_within, total_within}
 
-module _ (ws : List ℕ) (sum n : ℕ) (held dues : List ℕ) (w : Weighed ws sum) (long : length ws ≡ partners) (before : n < sum)
+module _ {ws : List ℕ} {sum n : ℕ} {held dues : List ℕ} (w : Weighed ws sum) (long : length ws ≡ partners) (before : n < sum)
     (walk : Walks ws sum n held dues) where
   module _ (i : ℕ) (b : i < partners) where
     pub held_within : get_or held i 0 ≤ weight_sum

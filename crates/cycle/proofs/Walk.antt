@@ -31,26 +31,23 @@ pub record Walked (ws : List ℕ) (sum : ℕ) (table₀ : List ℕ) (n : ℕ) (h
   pub sixteen : length dues ≡ partners
   pub rows : table ≡ filled 0 (mask ws) n table₀
 
-module _ (ws : List ℕ) (sum : ℕ) (table₀ : List ℕ) (w : Weighed ws sum) (long : length ws ≡ partners) (fits : sum ≤ length table₀) where
-  pub walked_start : (dues : List ℕ) → length dues ≡ partners → dues ≡ dues_by ws sum zeros → Walked ws sum table₀ 0 zeros dues table₀
-  walked_start dues sixteen d = record {
+module _ {ws : List ℕ} {sum : ℕ} {table₀ : List ℕ} (w : Weighed ws sum) (long : length ws ≡ partners) (fits : sum ≤ length table₀) where
+  pub walked_start : {dues : List ℕ} → length dues ≡ partners → dues ≡ dues_by ws sum zeros → Walked ws sum table₀ 0 zeros dues table₀
+  walked_start {dues} sixteen d = record {
     upto = omega arith;
     walk = record { units = sym (rw long at (walk_start ws)); next = λ i b. ap (λ (l : List ℕ). get_or l i 0) d ∙ dues_are ws sum zeros small i b };
     sixteen = sixteen;
     rows = fill_none 0 (mask ws) table₀;
   }
     where
-      small : Small ws sum zeros 0
-      small = record { weigh = weight_within ws sum w long; most = w.most; units = λ i b. rw (get_d_noughts partners i) (omega arith); early = omega arith }
+      small : Small ws sum zeros
+      small = record { weigh = weight_within ws sum w long; most = w.most; units = λ i b. rw (get_d_noughts partners i) (omega arith) }
 
-  module _ (n : ℕ) (held dues table : List ℕ) (k : Walked ws sum table₀ n held dues table) where
+  module _ {n : ℕ} {held dues table : List ℕ} (k : Walked ws sum table₀ n held dues table) where
     pub length_walked : length table ≡ length table₀
     length_walked = ap length k.rows ∙ length_filled 0 (mask ws) table₀ n
 
-    pub row_inside : n < sum → n < length table
-    row_inside b = omega (arith, length_walked)
-
-    module _ (p : ℕ) (b : n < sum) (e : taker_of ws held (n + 1) ≡ place p) where
+    module _ {p : ℕ} (b : n < sum) (e : taker_of ws held (n + 1) ≡ place p) where
       pub taker_inside : p < partners
       taker_inside = omega (arith, (taker_takes ws held (n + 1) p e).partner)
 
@@ -64,9 +61,9 @@ module _ (ws : List ℕ) (sum : ℕ) (table₀ : List ℕ) (w : Weighed ws sum) 
       pub raised_within : get_or held p 0 < weight_sum
       raised_within = omega (arith, ap (λ (l : List ℕ). get_or l p 0) k.walk.units, total_within ws sum w long n p taker_inside, w.most)
 
-      pub walked_step : (r d : ℕ) → r ≡ mask ws n → d ≡ due_by sum (get_or ws p 0) (get_or held p 0 + 1)
+      pub walked_step : {r d : ℕ} → r ≡ mask ws n → d ≡ due_by sum (get_or ws p 0) (get_or held p 0 + 1)
           → Walked ws sum table₀ (n + 1) (set held p (get_or held p 0 + 1)) (set dues p d) (set table n r)
-      walked_step r d row here = record {
+      walked_step {r} {d} row here = record {
         upto = omega arith;
         walk = record { units = raised; next = λ i c. go i c (ℕ_discrete i p) };
         sixteen = length-set dues p d ∙ k.sixteen;
@@ -80,6 +77,3 @@ module _ (ws : List ℕ) (sum : ℕ) (table₀ : List ℕ) (w : Weighed ws sum) 
           go i c (yes f) =
               rw (f, get_or-set_same held p (get_or held p 0 + 1) 0 (omega (arith, taker_inside, long_held)), get_or-set_same dues p d 0 (omega (arith, taker_inside, k.sixteen))) (here ∙ due_is sum (get_or ws p 0) (get_or held p 0 + 1) early)
           go i c (no f) = rw (get_or-set_other held p i (get_or held p 0 + 1) 0 f) (get_or-set_other dues p i d 0 f ∙ k.walk.next i c)
-
-    pub walked_end : sum ≤ n → table ≡ filled 0 (mask ws) sum table₀
-    walked_end end = let e : n ≡ sum = omega (arith, k.upto) in rw e at k.rows

@@ -5,19 +5,14 @@ use Rattle.whole.specs.Sums.{sum_of}
 use Rattle.whole.specs.Lists.{filled}
 use Rattle.units.specs.Rule.{totals}
 use Rattle.units.specs.Mask.{mask}
-use Rattle.running.specs.Limits.{weight_sum, weighed}
+use Rattle.running.specs.Limits.{weighed}
+pub use Rattle.running.specs.Limits.{Weighed}
 use Rattle.running.specs.Running.{Dues}
 
 -- the table with a row for each net total below W in its first W places: who is one above its share rounded down. It stays as it was
 -- where the weights break their rule, and where it has fewer places than W.
 unfoldable pub cycle_in : (ws table : List ℕ) → List ℕ
 cycle_in ws table = cond (cond (weighed ws) (leb (sum_of ws) (length table)) false) (filled 0 (mask ws) (sum_of ws) table) table
-
--- sixteen weights with sum W, from 1 to 10,000
-pub record Weighed (ws : List ℕ) (sum : ℕ) : Type 0 where
-  pub same : sum ≡ sum_of ws
-  pub some : 1 ≤ sum
-  pub most : sum ≤ weight_sum
 
 -- the table has a row for each net total below W
 pub record Cycled (ws : List ℕ) (sum : ℕ) (table : List ℕ) : Type 0 where

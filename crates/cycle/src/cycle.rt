@@ -13,17 +13,13 @@ fn row(weights: [u32; PARTNERS], sum: u32, held: [u32; PARTNERS], n: u32) -> u16
     requires n_lt_sum { (n < sum) × (held ≡ totals weights n) }
     ensures { result ≡ mask weights n }
 {
-    let mut bits: u32 = 0;
-    let mut power: u32 = 1;
-    let mut i = 0;
-    while i < PARTNERS {
+    let mut bits = 0;
+    for i in 0..PARTNERS {
         if n * weights[i] < held[i] * sum {
-            bits += power;
+            bits += 1 << i;
         }
-        power = 2 * power;
-        i += 1;
     }
-    bits as u16
+    bits
 }
 
 // The rows of all net totals below W, by one walk over the units. A row does not wait for the due number that the scan leads to.
@@ -32,19 +28,19 @@ fn fill(weights: [u32; PARTNERS], sum: u32, table: &mut [u16])
     requires sum_in_bounds { sum ≤ length table.old }
     ensures { table.new ≡ filled 0 (mask weights) sum table.old }
 {
-    let mut held: [u32; PARTNERS] = [0; PARTNERS];
+    let mut held = [0; PARTNERS];
     let mut due = due_numbers(weights, sum, held);
-    let mut n = 0;
-    while n < sum {
+    for n in 0..sum {
         let p = first_due(weights, sum, held, due, n + 1);
+        prove!(p < PARTNERS);
         table[n as usize] = row(weights, sum, held, n);
         let units = held[p] + 1;
         held[p] = units;
         due[p] = due_number(weights[p], sum, units);
-        n += 1;
     }
 }
 
+// The two tests of the sum are those of running's own totals; to share them would make a private function of `running` public.
 // The cycle's rows in the first W places of a lent table. Where the weights break their rule, or the table has fewer places than W,
 // nothing is written.
 pub fn fill_cycle(weights: [u32; PARTNERS], table: &mut [u16])

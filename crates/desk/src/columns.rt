@@ -1,26 +1,24 @@
 // The calls of doubles, which a line has by their 64 bits.
 use crate::answers::Reply;
+use crate::hearing::u64_at;
 use currency::Currency;
-use doubles::{Exported, Row, Taken, bits_of, export, of_bits, take_row};
-use intake::{amount_at, u8_at, u64_at};
+use doubles::{Row, bits_of, export, of_bits, take_row};
+use intake::{amount_at, nth};
+use lines::Number;
+use refusal::Refusal;
 
-pub(crate) fn row_of(signs: &[bool], values: &[u64]) -> Reply {
-    let currency = Currency(u8_at(signs, values, 0));
-    let scale = u8_at(signs, values, 1);
-    let mode = u8_at(signs, values, 2);
+pub(crate) fn row_of(numbers: &[Number]) -> Result<Reply, Refusal> {
+    let currency = Currency(nth(numbers, 0).as_u8());
+    let scale = nth(numbers, 1).as_u8();
+    let mode = nth(numbers, 2).as_u8();
     let given = Row {
-        net: of_bits(u64_at(signs, values, 3)),
-        tax: of_bits(u64_at(signs, values, 4)),
+        net: of_bits(u64_at(numbers, 3)),
+        tax: of_bits(u64_at(numbers, 4)),
     };
-    match take_row(given, currency, scale, mode) {
-        Taken::Refused(refusal) => Reply::Refused(refusal),
-        Taken::Value(amounts) => Reply::Two(amounts.net.coefficient, amounts.tax.coefficient),
-    }
+    let amounts = take_row(given, currency, scale, mode)?;
+    Ok(Reply::Two(amounts.net.coefficient, amounts.tax.coefficient))
 }
 
-pub(crate) fn export_of(signs: &[bool], values: &[u64]) -> Reply {
-    match export(amount_at(signs, values, 0)) {
-        Exported::Refused(refusal) => Reply::Refused(refusal),
-        Exported::Value(x) => Reply::Bits(bits_of(x)),
-    }
+pub(crate) fn export_of(numbers: &[Number]) -> Result<Reply, Refusal> {
+    Ok(Reply::Bits(bits_of(export(amount_at(numbers, 0))?)))
 }

@@ -3,25 +3,25 @@
 
 mod answers;
 mod asking;
-mod booked;
 mod books;
 mod calls;
 mod columns;
+mod hearing;
 mod lists;
-mod reasons;
+mod readers;
 mod statements;
 mod texts;
 mod turns;
 
-use console::{Source, end_with, open_source};
+use console::{end_with, open_source};
 use turns::answer_file;
 
 fn main(rt: HostRuntime) {
     match open_source(&rt) {
-        Source::Nowhere(status) => {
+        Err(status) => {
             end_with(&rt, status);
         },
-        Source::From(stream) => {
+        Ok(stream) => {
             end_with(&rt, answer_file(&rt, stream));
         },
     }

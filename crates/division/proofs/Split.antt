@@ -1,12 +1,12 @@
 -- A product's quotient and rest without the product: a x b = (a / d x b) x d + (a % d) x b, and the second product by the two digits of b.
 -- Assumes nothing.
-use mathlib.Core.Path.{◌≡◌, refl, sym, ap, ◌∙◌}
-use mathlib.Core.Bool.{true, false, ◌&&◌}
+use mathlib.Core.Path.{◌≡◌, refl, ap}
+use mathlib.Core.Bool.{true, ◌&&◌}
 use Prim.Native.Nat.{ℕ, ◌+◌, ◌*◌, ◌/◌, ◌%◌, ◌<◌, ◌≤◌}
 use native.Mathlib.Decide.{dec_lt}
-use native.Mathlib.Nat.{div-add-mod', mul-le-mul, mul-le-mul_right, le-div_iff_mul-le, div-mul-le_self, div-lt_iff_lt-mul}
+use native.Mathlib.Nat.{div-add-mod', mul-le-mul_right, le-div_iff_mul-le, div-mul-le_self}
 use native.Mathlib.Omega.{arith}
-use borrow.Author.Tests.{lt-ltb, le-ltb, ltb-true}
+use borrow.Author.Tests.{ltb-true}
 use lib.Dec.{ltb}
 use Rattle.division.specs.Division.{most}
 use Rattle.division.specs.Digits.{base, wide, Parts, Divides}
@@ -15,10 +15,6 @@ use Rattle.division.proofs.Limits.{both_true}
 -- where both tests hold the product fits a word
 pub narrow : (r b : ℕ) → (ltb r wide && ltb b base) ≡ true → (r < wide) × (b < base)
 narrow r b e = let t = both_true (ltb r wide) (ltb b base) e in (ltb-true r wide t.0, ltb-true b base t.1)
-
-pub word_fits : (r b : ℕ) → r < wide → b < base → r * b < wide * base
-word_fits r b h k =
-    let p : r * b ≤ 17179869183 * 1073741823 = mul-le-mul {n₂ = 17179869183} {m₂ = 1073741823} (omega arith) (omega arith) in omega arith
 
 -- two digits of b
 module _ (B r b d : ℕ) where
@@ -55,18 +51,3 @@ module _ (a b d : ℕ) (h : 0 < d) where
     whole = (let x : (a / d * d + a % d) * b ≡ a * b = ap (λ (y : ℕ). y * b) (div-add-mod' a d) in omega (arith, part.whole));
     small = part.small;
   }
-
--- a quotient is below b exactly where the product is over
-pub over_none : (times b : ℕ) → times ≡ 0 → false ≡ ltb most (times * b)
-over_none times b none = sym (le-ltb most (times * b) (rw none (omega arith)))
-
-pub over_some : (times b : ℕ) → 0 < times → ltb (most / times) b ≡ ltb most (times * b)
-over_some times b some = go (dec_lt (most / times) b)
-  where
-    go : Dec (most / times < b) → ltb (most / times) b ≡ ltb most (times * b)
-    go (yes less) =
-        let more : most < b * times = (div-lt_iff_lt-mul some).0 less in
-        lt-ltb (most / times) b less ∙ sym (lt-ltb most (times * b) (omega arith))
-    go (no f) =
-        let within : b * times ≤ most = (le-div_iff_mul-le some).0 (omega arith) in
-        le-ltb (most / times) b (omega arith) ∙ sym (le-ltb most (times * b) (omega arith))

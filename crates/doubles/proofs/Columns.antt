@@ -57,6 +57,11 @@ module _ (rule : Rule) (sign : Bool) where
           (at_divisor rule sign n d (omega arith)
           ∙ rw (div-eq_of_lt below, mod-eq_of_lt below, class_is Below n d (omega arith, h)) refl))
 
+-- and what is below 2^63 over a power that a word doesn't hold
+pub below_half : (rule : Rule) (sign : Bool) (n k : ℕ) → n < 2 ^ 63 → 64 ≤ k → rounded_magnitude rule sign n (2 ^ k) ≡ tiny_of rule sign n
+below_half rule sign n k h l =
+    let more : 2 ^ 64 ≤ 2 ^ k = pow-le-pow_right {n = 2} (omega arith) {i = 64} {j = k} l in sym (tiny_is rule sign n (2 ^ k) (omega (arith, more)))
+
 -- the cap
 pub capped_over : (m : ℕ) → largest < m → capped m ≡ largest + 1
 unfolding capped

@@ -1,7 +1,6 @@
 pub mod Worth
 pub mod Fields
 pub mod Columns
-pub mod NoNumber
 pub mod Taking
 pub mod Division
 pub mod Zeros

@@ -4,8 +4,7 @@
 use Rattle.std.specs.Prelude.{Bool, true, false, List, [], ◌∷◌, ℕ, ◌*◌, ◌^◌, ltb, ℤ, pos, Float}
 use Rattle.std.specs.Float.{nan, inf, fin}
 use Rattle.std.specs.Float.Ieee.{up, down}
-use Rattle.refusal.specs.Number.{number_of, blamed_of}
-use Rattle.refusal.specs.Rows.{Said, gives, refuses, Row, row, first_row}
+use Rattle.refusal.specs.Rows.{Said, gives, Row, row, first_row}
 use Rattle.refusal.specs.declared.Refusal.TheVariants.{Mode, Scale, Unknown, Limit, NoNumber}
 use Rattle.whole.specs.Whole.{magnitude_of, signed_of}
 use Rattle.rounding.specs.declared.Rule.{Rule}
@@ -17,13 +16,6 @@ use Rattle.amount.specs.declared.Amount.{Amount}
 use Rattle.amount.specs.Amounts.{over_l}
 use Rattle.doubles.specs.declared.Row.{Row as Given}
 use Rattle.doubles.specs.declared.Amounts.{Amounts}
-use Rattle.doubles.specs.declared.Taken.{Taken}
-use Rattle.doubles.specs.declared.Taken.TheVariants.{Value, Refused}
-
--- what each case of the answer says
-abbrev pub means_taken : Taken → Said Amounts
-means_taken (Value a) = gives a
-means_taken (Refused r) = refuses (number_of r) (blamed_of r)
 
 -- "at a scale from 0 to 3"; "A scale over 3 is refusal 2"
 abbrev pub last_scale : ℕ

@@ -3,22 +3,14 @@
 use Rattle.std.specs.Prelude.{List, [], ◌∷◌, ℕ, ◌^◌, ltb, ℤ, pos, Float}
 use Rattle.std.specs.Float.{binary64}
 use Rattle.std.specs.Float.Ieee.{of_int, div}
-use Rattle.refusal.specs.Number.{number_of, blamed_of}
-use Rattle.refusal.specs.Rows.{Said, gives, refuses, Row, row, first_row}
+use Rattle.refusal.specs.Rows.{Said, gives, Row, row, first_row}
 use Rattle.refusal.specs.declared.Refusal.TheVariants.{Scale, Magnitude, Unknown}
 use Rattle.whole.specs.Whole.{magnitude_of}
 use Rattle.currency.specs.declared.Currency.{Currency}
 use Rattle.currency.specs.Table.{unknown}
 use Rattle.amount.specs.declared.Amount.{Amount}
 use Rattle.amount.specs.Amounts.{over_l}
-use Rattle.doubles.specs.declared.Exported.{Exported}
-use Rattle.doubles.specs.declared.Exported.TheVariants.{Value, Refused}
 use Rattle.doubles.specs.Doubles.{last_scale}
-
--- what each case of the answer says
-abbrev pub means_exported : Exported → Said Float
-means_exported (Value x) = gives x
-means_exported (Refused r) = refuses (number_of r) (blamed_of r)
 
 -- "the coefficient becomes a double ... and is divided once by 1, 10, 100 or 1,000"
 unfoldable pub exported : ℤ → (scale : ℕ) → Float

@@ -1,12 +1,15 @@
 -- What the functions below `take_row` hand up: a double's parts by its 64 bits. No public promise cites it. Assumes nothing.
 use Rattle.std.specs.Prelude.{Bool, false, cond, ℕ, ◌+◌, ◌/◌, ◌%◌, ◌^◌, ltb, leb, eqb, Float}
+use Rattle.std.specs.Float.{binary64}
+use Rattle.std.specs.Float.Ieee.{of_bits}
 use Rattle.whole.specs.Whole.{magnitude_of}
 use Rattle.rounding.specs.declared.Rule.{Rule}
 use Rattle.rounding.specs.declared.Rest.TheVariants.{Below}
 use Rattle.rounding.specs.Modes.{rises_by}
 use Rattle.rounding.specs.Leaf.{raised}
 use Rattle.amount.specs.Amounts.{largest}
-use Rattle.doubles.specs.Doubles.{coefficient_of}
+use Rattle.doubles.specs.declared.column.Column.{Column}
+use Rattle.doubles.specs.Doubles.{no_number, coefficient_of}
 
 -- the sign, the exponent's field and the digits
 abbrev pub sign_of : ℕ → Bool
@@ -32,3 +35,9 @@ capped m = cond (ltb largest m) (largest + 1) m
 
 abbrev pub magnitude_at : Rule → (scale : ℕ) → Float → ℕ
 magnitude_at rule scale x = magnitude_of (coefficient_of rule scale x)
+
+-- a column by its bits
+abbrev pub column_at : Rule → (scale bits : ℕ) → Column
+column_at rule scale bits =
+    let x = of_bits binary64 bits in
+    record { negative = sign_of bits; m = capped (magnitude_at rule scale x); numberless = no_number x }

@@ -16,23 +16,11 @@ pub struct Row {
     pub tax: f64,
 }
 
-// Both columns of a row.
+// Both columns of a row as amounts: a type of its own, since each of the two is public by its name and its fields.
 #[derive(Clone, Copy)]
 pub struct Amounts {
     pub net: Amount,
     pub tax: Amount,
-}
-
-#[derive(Clone, Copy)]
-pub enum Taken {
-    Value(Amounts),
-    Refused(Refusal),
-}
-
-#[derive(Clone, Copy)]
-pub enum Exported {
-    Value(f64),
-    Refused(Refusal),
 }
 
 pub use exports::export;

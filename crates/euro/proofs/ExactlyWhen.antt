@@ -1,11 +1,11 @@
 -- All rows of a conversion, row 13 at the euro step and at the result among them: they stand in the table's order, so a conversion gives a
 -- number exactly when a row of it holds and no row before it in that order does. Assumes nothing.
+use Rattle.std.specs.Prelude.{Ok}
 use mathlib.Core.Path.{◌≡◌, refl, sym, ◌∙◌}
 use mathlib.Core.Bool.{Bool, true, false, not, cond, ◌&&◌}
 use mathlib.Core.List.{List, [], ◌∷◌, ◌++◌}
 use Prim.Native.Nat.{ℕ}
 use lib.IntN.{ℤ}
-use Rattle.refusal.specs.declared.Checked.TheVariants.{Passed}
 use Rattle.refusal.specs.declared.Refusal.TheVariants.{Limit}
 use Rattle.refusal.specs.Rows.{Said, gives, Row, row, first_row, check_of}
 use Rattle.refusal.proofs.Check.{behind, clear}
@@ -53,13 +53,13 @@ abbrev pub all_rows : ℕ → Amount → Currency → List Row
 all_rows decimals a to = given_rows decimals a to ++ limit_rows decimals a to
 
 -- two values that agree where the rows let pass are said alike
-agree : {A : Type 0} (rows : List Row) (v w : Said A) → (check_of rows ≡ Passed → v ≡ w) → first_row rows v ≡ first_row rows w
+agree : {A : Type 0} (rows : List Row) (v w : Said A) → (check_of rows ≡ Ok tt → v ≡ w) → first_row rows v ≡ first_row rows w
 agree [] v w h = h refl
 agree (row r true ∷ rows) v w h = refl
 agree (row r false ∷ rows) v w h = agree rows v w h
 
 -- what passed row 3
-within : (decimals scale m : ℕ) (from to : Currency) → check_of (convert_rows decimals scale m from to) ≡ Passed → over_l m ≡ false
+within : (decimals scale m : ℕ) (from to : Currency) → check_of (convert_rows decimals scale m from to) ≡ Ok tt → over_l m ≡ false
 unfolding convert_rows
 within decimals scale m from to e = (clear (convert_rows decimals scale m from to) e).1.1.1.1.0
 

@@ -1,7 +1,7 @@
 -- A step by sign and magnitude, as a program takes it: the leaf gives the step's magnitude, or one more than 10^18 where it is over that, and the
 -- sign is the amount's. Every line's factors are within the leaf's limits. Assumes nothing.
 use mathlib.Core.Path.{◌≡◌, sym, ◌∙◌, ap, ap₂}
-use mathlib.Core.Bool.{Bool}
+use mathlib.Core.Bool.{Bool, false}
 use Prim.Native.Nat.{ℕ, ◌+◌, ◌*◌, ◌≤◌, ◌<◌, ◌^◌}
 use native.Mathlib.Nat.{mul-le-mul, mul-pos, pow-le-pow_right, one-le-pow}
 use native.Mathlib.Omega.{arith}
@@ -13,12 +13,15 @@ use Rattle.rounding.specs.Leaf.{rounded, rounded_magnitude}
 use Rattle.rounding.specs.Product.{capped, rounded_product}
 use Rattle.rounding.proofs.Capped.{product_within}
 use Rattle.rounding.proofs.Factors.{signed_rounds}
+use Rattle.rounding.proofs.HalfUp.{either_sign}
 use Rattle.rounding.proofs.Order.{signed_times}
 use Rattle.currency.specs.declared.Line.{Line}
 use Rattle.currency.specs.Tens.{power_of_ten}
 use Rattle.currency.proofs.Tables.{Good, power_of_ten_lem}
 use Rattle.amount.specs.Amounts.{largest}
 use Rattle.euro.specs.Steps.{to_euro, from_euro, most_decimals}
+use Rattle.euro.specs.declared.conversion.Rate.{Rate}
+use Rattle.euro.specs.Through.{rate_at}
 
 module _ (sign : Bool) (m f d : ℕ) where
   -- so does a multiple of it
@@ -63,21 +66,21 @@ module _ (l : Line) (good : Good l) (decimals : ℕ) (few : decimals ≤ most_de
       let few_tens : l.places + decimals ≤ 12 = omega (arith, good.few_places) in
       omega (arith, pow-le-pow_right {n = 10} (omega arith) few_tens)
 
-  module _ (sign : Bool) (m : ℕ) where
-    pub to_euro_is : m ≤ largest
-        → rounded_product HalfUp sign m (power_of_ten (l.places + decimals)) (l.figures * power_of_ten l.digits)
-        ≡ capped (magnitude_of (to_euro l decimals (signed_of sign m)))
+  -- the rate, as a program has it, and each step by it
+  pub rate_is : ◌≡◌ {A = Rate} (record { unit = l.figures * power_of_ten l.digits; parts = power_of_ten (l.places + decimals) }) (rate_at l decimals)
+  rate_is = ap₂ (λ (x y : ℕ). record { unit = x; parts = y }) (unit_is l good) parts_is
+
+  module _ (sign : Bool) (m : ℕ) (small : m ≤ largest) where
+    pub to_euro_is : rounded_product HalfUp false m (rate_at l decimals).parts (rate_at l decimals).unit ≡ capped (magnitude_of (to_euro l decimals (signed_of sign m)))
     unfolding to_euro
-    to_euro_is small =
-        ap₂ (λ (x y : ℕ). rounded_product HalfUp sign m x y) parts_is (unit_is l good)
+    to_euro_is =
+        either_sign sign m (10 ^ (l.places + decimals)) (l.figures * 10 ^ l.digits)
         ∙ leaf sign m (10 ^ (l.places + decimals)) (l.figures * 10 ^ l.digits) small parts_most (unit_some l good) (unit_most l good)
 
-    pub from_euro_is : m ≤ largest
-        → rounded_product HalfUp sign m (l.figures * power_of_ten l.digits) (power_of_ten (l.places + decimals))
-        ≡ capped (magnitude_of (from_euro l decimals (signed_of sign m)))
+    pub from_euro_is : rounded_product HalfUp false m (rate_at l decimals).unit (rate_at l decimals).parts ≡ capped (magnitude_of (from_euro l decimals (signed_of sign m)))
     unfolding from_euro
-    from_euro_is small =
-        ap₂ (λ (x y : ℕ). rounded_product HalfUp sign m x y) (unit_is l good) parts_is
+    from_euro_is =
+        either_sign sign m (l.figures * 10 ^ l.digits) (10 ^ (l.places + decimals))
         ∙ leaf sign m (l.figures * 10 ^ l.digits) (10 ^ (l.places + decimals)) small (unit_most l good) parts_some parts_most
 
 -- each step keeps the sign

@@ -1,9 +1,15 @@
 -- Every exchange as one through the euro: what the functions below `convert` hand each other. No public promise cites it. Assumes nothing.
-use Rattle.std.specs.Prelude.{cond, ℕ, ℤ}
+use Rattle.std.specs.Prelude.{cond, ℕ, ◌+◌, ◌*◌, ◌^◌, ℤ}
 use Rattle.currency.specs.declared.Currency.{Currency}
+use Rattle.currency.specs.declared.Line.{Line}
 use Rattle.currency.specs.Table.{line_of, same}
 use Rattle.currency.specs.Names.{EUR}
 use Rattle.euro.specs.Steps.{to_euro, from_euro, cents}
+use Rattle.euro.specs.declared.conversion.Rate.{Rate}
+
+-- a rate by the two factors of a step
+abbrev pub rate_at : Line → (decimals : ℕ) → Rate
+rate_at l decimals = record { unit = l.figures * 10 ^ l.digits; parts = 10 ^ (l.places + decimals) }
 
 -- the decimals of the number in euro: cents where one side is the euro
 abbrev pub decimals_of : (decimals : ℕ) → (from to : Currency) → ℕ

@@ -2,4 +2,3 @@ pub mod Passed
 pub mod Fields
 pub mod Outcomes
 pub mod ExactlyWhen
-pub mod Ends

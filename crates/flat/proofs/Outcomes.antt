@@ -1,5 +1,6 @@
 -- An outcome has the number and the blamed date of what it says, so that a struct which holds one is flattened to what its promise says.
 -- Assumes nothing.
+use Rattle.std.specs.Prelude.{Result, Ok, Err, ⊤}
 use mathlib.Core.Path.{◌≡◌, refl, ◌∙◌, ap}
 use mathlib.Core.Bool.{Bool}
 use mathlib.Core.List.{List}
@@ -8,50 +9,40 @@ use lib.IntN.{ℤ}
 use lib.ListN.{length}
 use Rattle.refusal.specs.Number.{number_in, blamed_in}
 use Rattle.refusal.specs.Rows.{Said, means_outcome}
-use Rattle.refusal.specs.declared.Checked.{Checked}
-use Rattle.refusal.specs.declared.Checked.TheVariants.{Passed, Refused}
-use Rattle.currency.specs.declared.Currency.{Currency}
 use Rattle.book.specs.declared.Book.{Book}
-use Rattle.book.specs.declared.Opened.{Opened}
 use Rattle.book.specs.declared.Moved.{Moved}
-use Rattle.book.specs.declared.Totals.{Totals}
-use Rattle.book.specs.Moves.{Answers, open_said, Opens, totals_said, Tallies}
+use Rattle.book.specs.Moves.{Answers}
 use Rattle.book.specs.Cards.{card_said, Cards}
 use Rattle.bulk.specs.declared.Ran.{Ran}
 use Rattle.bulk.specs.Runs.{book_after, run_said, Serves}
 use Rattle.flat.specs.declared.MkbBook.{MkbBook}
 use Rattle.flat.specs.Given.{book_from}
 use Rattle.flat.specs.Answers.{refusal_of, blamed_of}
-use Rattle.flat.specs.Books.{book_of, book_behind, handed_back, opened_of, moved_of, carded_of, running_of, ran_of, opened_flat, moved_flat, totals_flat, ran_flat}
+use Rattle.refusal.specs.declared.Refusal.{Refusal}
+use Rattle.flat.specs.Books.{book_of, book_behind, handed_back, moved_of, carded_of, ran_of, moved_flat, ran_flat}
 
-number_of : {A : Type 0} (o : Checked) (value : A) → number_in o ≡ refusal_of (means_outcome o value)
-number_of Passed value = refl
-number_of (Refused r) value = refl
+number_of : {A : Type 0} (o : Result ⊤ Refusal) (value : A) → number_in o ≡ refusal_of (means_outcome o value)
+number_of (Ok tt) value = refl
+number_of (Err r) value = refl
 
-blamed_of_lem : {A : Type 0} (o : Checked) (value : A) → blamed_in o ≡ blamed_of (means_outcome o value)
-blamed_of_lem Passed value = refl
-blamed_of_lem (Refused r) value = refl
+blamed_of_lem : {A : Type 0} (o : Result ⊤ Refusal) (value : A) → blamed_in o ≡ blamed_of (means_outcome o value)
+blamed_of_lem (Ok tt) value = refl
+blamed_of_lem (Err r) value = refl
 
-pub said_number : {A : Type 0} (o : Checked) (value : A) (said : Said A) → means_outcome o value ≡ said → number_in o ≡ refusal_of said
+pub said_number : {A : Type 0} (o : Result ⊤ Refusal) (value : A) (said : Said A) → means_outcome o value ≡ said → number_in o ≡ refusal_of said
 said_number o value said e = number_of o value ∙ ap refusal_of e
 
-said_blamed : {A : Type 0} (o : Checked) (value : A) (said : Said A) → means_outcome o value ≡ said → blamed_in o ≡ blamed_of said
+said_blamed : {A : Type 0} (o : Result ⊤ Refusal) (value : A) (said : Said A) → means_outcome o value ≡ said → blamed_in o ≡ blamed_of said
 said_blamed o value said e = blamed_of_lem o value ∙ ap blamed_of e
 
 -- the given book or the next one, as the outcome says
-handed_of : {A : Type 0} (o : Checked) (value : A) (given : MkbBook) (next : Book) → handed_back o given next ≡ book_behind (means_outcome o value) given next
-handed_of Passed value given next = refl
-handed_of (Refused r) value given next = refl
+handed_of : {A : Type 0} (o : Result ⊤ Refusal) (value : A) (given : MkbBook) (next : Book) → handed_back o given next ≡ book_behind (means_outcome o value) given next
+handed_of (Ok tt) value given next = refl
+handed_of (Err r) value given next = refl
 
-said_book : {A : Type 0} (o : Checked) (value : A) (said : Said A) → means_outcome o value ≡ said
+said_book : {A : Type 0} (o : Result ⊤ Refusal) (value : A) (said : Said A) → means_outcome o value ≡ said
     → (given : MkbBook) (next next' : Book) → next ≡ next' → handed_back o given next ≡ book_behind said given next'
 said_book o value said e given next next' n = handed_of o value given next ∙ (λ i. book_behind (e i) given (n i))
-
-pub opened : (c : Currency) (ws : List ℕ) (r : Opened) → Opens c ws r → opened_flat r ≡ opened_of (open_said c ws)
-opened c ws r p =
-    let number = said_number r.outcome r.book (open_said c ws) p.outcome in
-    let blamed = said_blamed r.outcome r.book (open_said c ws) p.outcome in
-    let book = ap book_of p.book in λ i. record { refusal = number i; blamed = blamed i; book = book i }
 
 pub moved : (payouts : Book → Said ℕ → List ℕ) (given : MkbBook) (said : Said ℕ) (r : Moved)
     → Answers (book_from given) said (payouts (book_from given) said) r → moved_flat given r ≡ moved_of payouts given said
@@ -68,11 +59,6 @@ carded given ws r p =
     let blamed = said_blamed r.outcome _ said p.outcome in
     let book = said_book r.outcome _ said p.outcome given r.book _ p.book in
     λ i. record { refusal = number i; blamed = blamed i; book = book i; payouts = p.paid i }
-
-pub running : (b : Book) (r : Totals) → Tallies b r → totals_flat r ≡ running_of (totals_said b)
-running b r p =
-    let number = said_number r.outcome r.totals (totals_said b) p.outcome in
-    let blamed = said_blamed r.outcome r.totals (totals_said b) p.outcome in λ i. record { refusal = number i; blamed = blamed i; totals = p.totals i }
 
 pub served : (given : MkbBook) (refunds : List Bool) (coefficients : List ℤ) (payouts numbers payouts' numbers' : List ℕ) (r : Ran)
     → Serves (book_from given) refunds coefficients payouts numbers r payouts' numbers'

@@ -4,8 +4,8 @@ use Rattle.std.specs.Prelude.{ℕ, ℤ, pos, negsuc}
 use Rattle.refusal.specs.Rows.{Said, gives, refuses}
 use Rattle.amount.specs.declared.Amount.{Amount}
 use Rattle.currency.specs.declared.Line.{Line}
-use Rattle.amount.specs.declared.Order.{Order}
-use Rattle.amount.specs.declared.Order.TheVariants.{Less, Equal, Greater}
+use Rattle.std.specs.declared.cmp.Ordering.{Ordering}
+use Rattle.std.specs.declared.cmp.Ordering.TheVariants.{Less, Equal, Greater}
 use Rattle.tax.specs.declared.Split.{Split}
 use Rattle.flat.specs.declared.MkbAmount.{MkbAmount}
 use Rattle.flat.specs.declared.MkbLine.{MkbLine}
@@ -42,12 +42,12 @@ amount_answer_of (gives a) = record { refusal = 0; blamed = 0; amount = amount_o
 amount_answer_of (refuses number blamed) = record { refusal = number; blamed = blamed; amount = no_amount }
 
 -- an order: -1, 0 or 1
-abbrev pub sign_of : Order → ℤ
+abbrev pub sign_of : Ordering → ℤ
 sign_of Less = negsuc 0
 sign_of Equal = pos 0
 sign_of Greater = pos 1
 
-abbrev pub order_of : Said Order → MkbOrderAnswer
+abbrev pub order_of : Said Ordering → MkbOrderAnswer
 order_of (gives o) = record { refusal = 0; blamed = 0; order = sign_of o }
 order_of (refuses number blamed) = record { refusal = number; blamed = blamed; order = pos 0 }
 

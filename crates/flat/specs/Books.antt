@@ -1,14 +1,10 @@
 -- What C is answered by the book's calls: the number, the date blamed (none: 0), and what the base hands back. A refused posting, refund or run
 -- hands the given book back as C gave it. Cited by the promises on the book. Assumes nothing.
-use Rattle.std.specs.Prelude.{Bool, List, ℕ, ℤ, pos}
+use Rattle.std.specs.Prelude.{Bool, List, ℕ, ℤ, pos, Result, Ok, Err, ⊤}
 use Rattle.refusal.specs.Number.{number_in, blamed_in}
 use Rattle.refusal.specs.Rows.{Said, gives, refuses}
-use Rattle.refusal.specs.declared.Checked.{Checked}
-use Rattle.refusal.specs.declared.Checked.TheVariants.{Passed, Refused}
 use Rattle.book.specs.declared.Book.{Book}
-use Rattle.book.specs.declared.Opened.{Opened}
 use Rattle.book.specs.declared.Moved.{Moved}
-use Rattle.book.specs.declared.Totals.{Totals}
 use Rattle.book.specs.Books.{zeros}
 use Rattle.book.specs.Moves.{next_book, opened_book, totals_of}
 use Rattle.book.specs.Cards.{card_book}
@@ -20,6 +16,7 @@ use Rattle.flat.specs.declared.MkbMoved.{MkbMoved}
 use Rattle.flat.specs.declared.MkbTotals.{MkbTotals}
 use Rattle.flat.specs.declared.MkbRan.{MkbRan}
 use Rattle.flat.specs.Given.{book_from}
+use Rattle.refusal.specs.declared.Refusal.{Refusal}
 use Rattle.flat.specs.Answers.{refusal_of, blamed_of}
 
 -- a book, field for field
@@ -70,12 +67,9 @@ ran_of given refunds coefficients said =
     }
 
 -- the same of the outcome that the base answers with, and of the structs that hold one
-abbrev pub handed_back : Checked → MkbBook → Book → MkbBook
-handed_back Passed given next = book_of next
-handed_back (Refused r) given next = given
-
-abbrev pub opened_flat : Opened → MkbOpened
-opened_flat o = record { refusal = number_in o.outcome; blamed = blamed_in o.outcome; book = book_of o.book }
+abbrev pub handed_back : Result ⊤ Refusal → MkbBook → Book → MkbBook
+handed_back (Ok tt) given next = book_of next
+handed_back (Err r) given next = given
 
 abbrev pub moved_flat : MkbBook → Moved → MkbMoved
 moved_flat given m =
@@ -85,9 +79,6 @@ moved_flat given m =
       book = handed_back m.outcome given m.book;
       payouts = m.payouts;
     }
-
-abbrev pub totals_flat : Totals → MkbTotals
-totals_flat t = record { refusal = number_in t.outcome; blamed = blamed_in t.outcome; totals = t.totals }
 
 abbrev pub ran_flat : MkbBook → Ran → MkbRan
 ran_flat given r =

@@ -1,9 +1,7 @@
 -- What C is answered of a statement file: the place behind its last byte, and what it says of itself; noughts where the call is refused. Cited by
 -- the promises on statements. Assumes nothing.
 use Rattle.std.specs.Prelude.{ℕ, pos}
-use Rattle.refusal.specs.Number.{number_in, blamed_in}
 use Rattle.refusal.specs.Rows.{Said, gives, refuses}
-use Rattle.statement.specs.declared.Written.{Written}
 use Rattle.statement.specs.declared.Summary.{Summary}
 use Rattle.flat.specs.declared.MkbEnd.{MkbEnd}
 use Rattle.flat.specs.declared.MkbStatement.{MkbStatement}
@@ -15,7 +13,3 @@ end_of (refuses number blamed) = record { refusal = number; blamed = blamed; end
 abbrev pub statement_of : Said Summary → MkbStatement
 statement_of (gives s) = record { refusal = 0; blamed = 0; first = s.first; count = s.count; sum = s.sum }
 statement_of (refuses number blamed) = record { refusal = number; blamed = blamed; first = 0; count = 0; sum = pos 0 }
-
--- an answer of `write` or `write_reasons`, field for field
-abbrev pub end_flat : Written → MkbEnd
-end_flat w = record { refusal = number_in w.outcome; blamed = blamed_in w.outcome; end = w.end }

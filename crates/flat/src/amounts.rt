@@ -1,46 +1,41 @@
-// An amount, flattened.
+// An amount as C lays it out, flattened and taken back.
 ghost use Rattle.std.specs.Prelude.{◌≡◌};
-ghost use Rattle.amount.specs.Amounts.{means_amount};
-ghost use Rattle.flat.specs.Answers.{amount_of, no_amount, amount_answer_of};
+ghost use Rattle.refusal.specs.Rows.{means};
+ghost use Rattle.flat.specs.Answers.{amount_of, amount_answer_of};
 
-use crate::numbers::to_field;
 use crate::{MkbAmount, MkbAmountAnswer};
-use amount::{Amount, Answer};
+use amount::Amount;
+use refusal::{Refusal, blamed_in, number_in};
 
-pub(crate) fn flat_amount(amount: Amount) -> MkbAmount
-    ensures { result ≡ amount_of amount }
-{
-    MkbAmount {
-        currency: to_field(amount.currency.0),
-        scale: to_field(amount.scale),
-        coefficient: amount.coefficient,
-    }
-}
-
-// The amount whose every field is 0.
-pub(crate) fn no_amount() -> MkbAmount
-    ensures { result ≡ no_amount }
-{
-    MkbAmount {
+impl MkbAmount {
+    // The amount whose every field is 0.
+    pub const NONE: MkbAmount = MkbAmount {
         currency: 0,
         scale: 0,
         coefficient: 0,
+    };
+}
+
+impl From<Amount> for MkbAmount {
+    ghost from_gives = { λ amount flat. flat ≡ amount_of amount };
+
+    fn from(amount: Amount) -> MkbAmount {
+        MkbAmount {
+            currency: i32::from(amount.currency.0),
+            scale: i32::from(amount.scale),
+            coefficient: amount.coefficient,
+        }
     }
 }
 
-pub fn flat_answer(answer: Answer) -> MkbAmountAnswer
-    ensures { result ≡ amount_answer_of (means_amount answer) }
-{
-    match answer {
-        Answer::Value(amount) => MkbAmountAnswer {
-            refusal: 0,
-            blamed: 0,
-            amount: flat_amount(amount),
-        },
-        Answer::Refused(refusal) => MkbAmountAnswer {
-            refusal: refusal.number(),
-            blamed: refusal.blamed(),
-            amount: no_amount(),
-        },
+impl From<Result<Amount, Refusal>> for MkbAmountAnswer {
+    ghost from_gives = { λ answer flat. flat ≡ amount_answer_of (means answer) };
+
+    fn from(answer: Result<Amount, Refusal>) -> MkbAmountAnswer {
+        MkbAmountAnswer {
+            refusal: number_in(&answer),
+            blamed: blamed_in(&answer),
+            amount: answer.map_or(MkbAmount::NONE, MkbAmount::from),
+        }
     }
 }

@@ -1,24 +1,19 @@
 // A day count, flattened.
 ghost use Rattle.std.specs.Prelude.{◌≡◌};
-ghost use Rattle.calendar.specs.DaysSaid.{means_days};
+ghost use Rattle.refusal.specs.Rows.{means};
 ghost use Rattle.flat.specs.Answers.{days_of};
 
 use crate::MkbDays;
-use calendar::DayCount;
+use refusal::{Refusal, blamed_in, number_in};
 
-pub fn flat_days(answer: DayCount) -> MkbDays
-    ensures { result ≡ days_of (means_days answer) }
-{
-    match answer {
-        DayCount::Days(days) => MkbDays {
-            refusal: 0,
-            blamed: 0,
-            days,
-        },
-        DayCount::Refused(refusal) => MkbDays {
-            refusal: refusal.number(),
-            blamed: refusal.blamed(),
-            days: 0,
-        },
+impl From<Result<u32, Refusal>> for MkbDays {
+    ghost from_gives = { λ answer flat. flat ≡ days_of (means answer) };
+
+    fn from(answer: Result<u32, Refusal>) -> MkbDays {
+        MkbDays {
+            refusal: number_in(&answer),
+            blamed: blamed_in(&answer),
+            days: answer.unwrap_or(0),
+        }
     }
 }

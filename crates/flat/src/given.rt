@@ -2,7 +2,7 @@
 ghost use Rattle.std.specs.Prelude.{◌≡◌};
 ghost use Rattle.flat.specs.Given.{currency_from, amount_from, date_from, book_from};
 
-use crate::numbers::{from_field, pass_u8, pass_u16};
+use crate::numbers::{pass_u8, pass_u16};
 use crate::{MkbAmount, MkbBook, MkbDate};
 use amount::Amount;
 use book::Book;
@@ -15,37 +15,43 @@ pub fn given_currency(number: i64) -> Currency
     Currency(pass_u8(number))
 }
 
-pub fn given_amount(given: MkbAmount) -> Amount
-    ensures { result ≡ amount_from given }
-{
-    Amount {
-        currency: given_currency(from_field(given.currency)),
-        scale: pass_u8(from_field(given.scale)),
-        coefficient: given.coefficient,
+impl From<MkbAmount> for Amount {
+    ghost from_gives = { λ given amount. amount ≡ amount_from given };
+
+    fn from(given: MkbAmount) -> Amount {
+        Amount {
+            currency: given_currency(i64::from(given.currency)),
+            scale: pass_u8(i64::from(given.scale)),
+            coefficient: given.coefficient,
+        }
     }
 }
 
-pub fn given_date(given: MkbDate) -> Date
-    ensures { result ≡ date_from given }
-{
-    Date {
-        year: pass_u16(from_field(given.year)),
-        month: pass_u8(from_field(given.month)),
-        day: pass_u8(from_field(given.day)),
+impl From<MkbDate> for Date {
+    ghost from_gives = { λ given date. date ≡ date_from given };
+
+    fn from(given: MkbDate) -> Date {
+        Date {
+            year: pass_u16(i64::from(given.year)),
+            month: pass_u8(i64::from(given.month)),
+            day: pass_u8(i64::from(given.day)),
+        }
     }
 }
 
-pub fn given_book(given: MkbBook) -> Book
-    ensures { result ≡ book_from given }
-{
-    let weights = given.weights;
-    let settled = given.settled;
-    Book {
-        currency: given_currency(from_field(given.currency)),
-        count: pass_u8(from_field(given.count)),
-        weights,
-        net: given.net,
-        card: pass_u16(given.card),
-        settled,
+impl From<MkbBook> for Book {
+    ghost from_gives = { λ given book. book ≡ book_from given };
+
+    fn from(given: MkbBook) -> Book {
+        let weights = given.weights;
+        let settled = given.settled;
+        Book {
+            currency: given_currency(i64::from(given.currency)),
+            count: pass_u8(i64::from(given.count)),
+            weights,
+            net: given.net,
+            card: pass_u16(given.card),
+            settled,
+        }
     }
 }

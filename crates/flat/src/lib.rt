@@ -20,20 +20,11 @@ mod texts;
 mod views;
 mod wholes;
 
-pub use amounts::flat_answer;
-pub use books::{flat_moved, flat_opened, flat_ran, flat_totals};
-pub use days::flat_days;
-pub use given::{given_amount, given_book, given_currency, given_date};
-pub use lines::flat_line;
+pub use books::{flat_moved, flat_ran};
+pub use given::given_currency;
 pub use numbers::{pass_u8, pass_u16, pass_u32, pass_u64};
-pub use orders::flat_order;
-pub use prices::flat_split;
-pub use reasons::{flat_any_statement, flat_any_step};
-pub use rows::{flat_double, flat_row, given_row};
-pub use statements::{flat_end, flat_statement};
-pub use texts::flat_written;
-pub use views::{flat_first, flat_step};
-pub use wholes::flat_whole;
+pub use reasons::flat_any_step;
+pub use views::flat_step;
 
 // Its worth is coefficient / 10^scale.
 #[repr(C)]

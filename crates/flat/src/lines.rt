@@ -5,14 +5,16 @@ ghost use Rattle.flat.specs.Answers.{line_flat};
 use crate::MkbLine;
 use currency::Line;
 
-pub fn flat_line(line: Line) -> MkbLine
-    ensures { result ≡ line_flat line }
-{
-    let code = line.code;
-    MkbLine {
-        code,
-        places: line.places,
-        digits: line.digits,
-        figures: line.figures,
+impl From<Line> for MkbLine {
+    ghost from_gives = { λ line flat. flat ≡ line_flat line };
+
+    fn from(line: Line) -> MkbLine {
+        let code = line.code;
+        MkbLine {
+            code,
+            places: line.places,
+            digits: line.digits,
+            figures: line.figures,
+        }
     }
 }

@@ -1,6 +1,6 @@
 // Numbers that C gives, passed on in a type that may be too small for them: what it can't hold becomes its largest value, which is past every
 // limit that document 01 sets.
-ghost use Rattle.std.specs.Prelude.{◌≡◌, pos};
+ghost use Rattle.std.specs.Prelude.{◌≡◌};
 ghost use Rattle.flat.specs.Given.{passed, passed8, passed16, passed32, passed64};
 
 use whole::{is_negative, magnitude};
@@ -38,23 +38,4 @@ pub fn pass_u64(n: i64) -> u64
     ensures { result ≡ passed64 n }
 {
     pass(18_446_744_073_709_551_615, n)
-}
-
-// A struct's field as a number of its own, and a small number as a struct's field.
-pub(crate) fn from_field(n: i32) -> i64
-    ensures { result ≡ n }
-{
-    n as i64
-}
-
-pub(crate) fn to_wide_field(n: u16) -> i64
-    ensures { result ≡ pos n }
-{
-    n as i64
-}
-
-pub(crate) fn to_field(n: u8) -> i32
-    ensures { result ≡ pos n }
-{
-    n as i32
 }

@@ -1,34 +1,30 @@
 // An order, flattened: -1, 0 or 1.
 ghost use Rattle.std.specs.Prelude.{◌≡◌};
-ghost use Rattle.amount.specs.Sum.{means_order};
+ghost use Rattle.refusal.specs.Rows.{means};
 ghost use Rattle.flat.specs.Answers.{sign_of, order_of};
 
 use crate::MkbOrderAnswer;
-use amount::{Order, Ordered};
+use refusal::{Refusal, blamed_in, number_in};
+use std::cmp::Ordering;
 
-fn sign_of(order: Order) -> i8
+fn sign_of(order: Ordering) -> i8
     ensures { result ≡ sign_of order }
 {
     match order {
-        Order::Less => -1,
-        Order::Equal => 0,
-        Order::Greater => 1,
+        Ordering::Less => -1,
+        Ordering::Equal => 0,
+        Ordering::Greater => 1,
     }
 }
 
-pub fn flat_order(answer: Ordered) -> MkbOrderAnswer
-    ensures { result ≡ order_of (means_order answer) }
-{
-    match answer {
-        Ordered::Value(order) => MkbOrderAnswer {
-            refusal: 0,
-            blamed: 0,
-            order: sign_of(order),
-        },
-        Ordered::Refused(refusal) => MkbOrderAnswer {
-            refusal: refusal.number(),
-            blamed: refusal.blamed(),
-            order: 0,
-        },
+impl From<Result<Ordering, Refusal>> for MkbOrderAnswer {
+    ghost from_gives = { λ answer flat. flat ≡ order_of (means answer) };
+
+    fn from(answer: Result<Ordering, Refusal>) -> MkbOrderAnswer {
+        MkbOrderAnswer {
+            refusal: number_in(&answer),
+            blamed: blamed_in(&answer),
+            order: answer.map_or(0, sign_of),
+        }
     }
 }

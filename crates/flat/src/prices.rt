@@ -1,29 +1,31 @@
 // A price taken apart, flattened.
 ghost use Rattle.std.specs.Prelude.{◌≡◌};
-ghost use Rattle.tax.specs.Tax.{means_tax};
+ghost use Rattle.refusal.specs.Rows.{means};
 ghost use Rattle.flat.specs.Answers.{split_of};
 
-use crate::MkbSplit;
-use crate::amounts::{flat_amount, no_amount};
-use tax::Taxed;
+use crate::{MkbAmount, MkbSplit};
+use refusal::Refusal;
+use tax::Split;
 
-pub fn flat_split(answer: Taxed) -> MkbSplit
-    ensures { result ≡ split_of (means_tax answer) }
-{
-    match answer {
-        Taxed::Value(split) => MkbSplit {
-            refusal: 0,
-            blamed: 0,
-            net: flat_amount(split.net),
-            tax: flat_amount(split.tax),
-            gross: flat_amount(split.gross),
-        },
-        Taxed::Refused(refusal) => MkbSplit {
-            refusal: refusal.number(),
-            blamed: refusal.blamed(),
-            net: no_amount(),
-            tax: no_amount(),
-            gross: no_amount(),
-        },
+impl From<Result<Split, Refusal>> for MkbSplit {
+    ghost from_gives = { λ answer flat. flat ≡ split_of (means answer) };
+
+    fn from(answer: Result<Split, Refusal>) -> MkbSplit {
+        match answer {
+            Ok(split) => MkbSplit {
+                refusal: 0,
+                blamed: 0,
+                net: split.net.into(),
+                tax: split.tax.into(),
+                gross: split.gross.into(),
+            },
+            Err(refusal) => MkbSplit {
+                refusal: refusal.number(),
+                blamed: refusal.blamed(),
+                net: MkbAmount::NONE,
+                tax: MkbAmount::NONE,
+                gross: MkbAmount::NONE,
+            },
+        }
     }
 }

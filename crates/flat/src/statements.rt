@@ -1,39 +1,43 @@
 // A written statement's end, and what a checked one says of itself, flattened.
 ghost use Rattle.std.specs.Prelude.{◌≡◌};
-ghost use Rattle.statement.specs.Reading.{means_found};
-ghost use Rattle.flat.specs.Statements.{end_flat, statement_of};
+ghost use Rattle.refusal.specs.Rows.{means};
+ghost use Rattle.flat.specs.Statements.{end_of, statement_of};
 
 use crate::{MkbEnd, MkbStatement};
-use statement::{Found, Written};
+use refusal::{Refusal, blamed_in, number_in};
+use statement::Summary;
 
-pub fn flat_end(written: Written) -> MkbEnd
-    ensures { result ≡ end_flat written }
-{
-    let outcome = written.outcome;
-    MkbEnd {
-        refusal: outcome.number(),
-        blamed: outcome.blamed(),
-        end: written.end as u64,
+impl From<Result<usize, Refusal>> for MkbEnd {
+    ghost from_gives = { λ answer flat. flat ≡ end_of (means answer) };
+
+    fn from(answer: Result<usize, Refusal>) -> MkbEnd {
+        MkbEnd {
+            refusal: number_in(&answer),
+            blamed: blamed_in(&answer),
+            end: answer.unwrap_or(0) as u64,
+        }
     }
 }
 
-pub fn flat_statement(found: Found) -> MkbStatement
-    ensures { result ≡ statement_of (means_found found) }
-{
-    match found {
-        Found::Value(summary) => MkbStatement {
-            refusal: 0,
-            blamed: 0,
-            first: summary.first as u64,
-            count: summary.count as u64,
-            sum: summary.sum,
-        },
-        Found::Refused(refusal) => MkbStatement {
-            refusal: refusal.number(),
-            blamed: refusal.blamed(),
-            first: 0,
-            count: 0,
-            sum: 0,
-        },
+impl From<Result<Summary, Refusal>> for MkbStatement {
+    ghost from_gives = { λ answer flat. flat ≡ statement_of (means answer) };
+
+    fn from(answer: Result<Summary, Refusal>) -> MkbStatement {
+        match answer {
+            Ok(summary) => MkbStatement {
+                refusal: 0,
+                blamed: 0,
+                first: summary.first as u64,
+                count: summary.count as u64,
+                sum: summary.sum,
+            },
+            Err(refusal) => MkbStatement {
+                refusal: refusal.number(),
+                blamed: refusal.blamed(),
+                first: 0,
+                count: 0,
+                sum: 0,
+            },
+        }
     }
 }

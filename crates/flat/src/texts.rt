@@ -1,24 +1,19 @@
 // What was written into a lent buffer, flattened.
 ghost use Rattle.std.specs.Prelude.{◌≡◌};
-ghost use Rattle.refusal.specs.Rows.{means_outcome};
+ghost use Rattle.refusal.specs.Rows.{means};
 ghost use Rattle.flat.specs.Answers.{written_of};
 
 use crate::MkbWritten;
-use refusal::Checked;
+use refusal::{Refusal, blamed_in, number_in};
 
-pub fn flat_written(outcome: Checked, length: usize) -> MkbWritten
-    ensures { result ≡ written_of (means_outcome outcome length) }
-{
-    match outcome {
-        Checked::Passed => MkbWritten {
-            refusal: 0,
-            blamed: 0,
-            length: length as u64,
-        },
-        Checked::Refused(refusal) => MkbWritten {
-            refusal: refusal.number(),
-            blamed: refusal.blamed(),
-            length: 0,
-        },
+impl From<Result<usize, Refusal>> for MkbWritten {
+    ghost from_gives = { λ answer flat. flat ≡ written_of (means answer) };
+
+    fn from(answer: Result<usize, Refusal>) -> MkbWritten {
+        MkbWritten {
+            refusal: number_in(&answer),
+            blamed: blamed_in(&answer),
+            length: answer.unwrap_or(0) as u64,
+        }
     }
 }

@@ -1,24 +1,19 @@
 // A plain quotient, flattened.
 ghost use Rattle.std.specs.Prelude.{◌≡◌};
-ghost use Rattle.rounding.specs.Plain.{means_quotient};
+ghost use Rattle.refusal.specs.Rows.{means};
 ghost use Rattle.flat.specs.Answers.{whole_of};
 
 use crate::MkbWhole;
-use rounding::Quotient;
+use refusal::{Refusal, blamed_in, number_in};
 
-pub fn flat_whole(answer: Quotient) -> MkbWhole
-    ensures { result ≡ whole_of (means_quotient answer) }
-{
-    match answer {
-        Quotient::Value(value) => MkbWhole {
-            refusal: 0,
-            blamed: 0,
-            value,
-        },
-        Quotient::Refused(refusal) => MkbWhole {
-            refusal: refusal.number(),
-            blamed: refusal.blamed(),
-            value: 0,
-        },
+impl From<Result<i64, Refusal>> for MkbWhole {
+    ghost from_gives = { λ answer flat. flat ≡ whole_of (means answer) };
+
+    fn from(answer: Result<i64, Refusal>) -> MkbWhole {
+        MkbWhole {
+            refusal: number_in(&answer),
+            blamed: blamed_in(&answer),
+            value: answer.unwrap_or(0),
+        }
     }
 }

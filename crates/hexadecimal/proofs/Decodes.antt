@@ -9,28 +9,28 @@ use lib.ListN.{length}
 use Rattle.lines.specs.Lines.{span}
 use Rattle.lines.specs.Texts.{put_at}
 use Rattle.lines.proofs.Fills.{put, no_room}
-use Rattle.hexadecimal.specs.declared.Decoded.{Decoded}
-use Rattle.hexadecimal.specs.declared.Decoded.TheVariants.{Bytes, Nothing}
+use Rattle.std.specs.Prelude.{Option}
+use Rattle.std.specs.Prelude.{Some, None}
 use Rattle.hexadecimal.specs.Hexadecimal.{is_digit, bytes_of, is_pairs, is_dash, bytes_in, decoded_of, list_after, count_in}
 use Rattle.hexadecimal.proofs.Digits.{bytes_length}
 use Rattle.hexadecimal.proofs.Accepted.{pairs_are, all_passed}
 
 module _ (word list : List ℕ) where
   -- what the promise says of an answer and the list
-  abbrev pub Read : Decoded → List ℕ → Type 0
-  Read r bytes = (r ≡ decoded_of (length list) word) × ((bytes ≡ list_after list word) × (count_in r ≤ length list))
+  abbrev pub Read : Option ℕ → List ℕ → Type 0
+  Read r bytes = (r ≡ decoded_of (length list) word) × (bytes ≡ list_after list word) × (count_in r ≤ length list)
 
   nothing_put : put_at list 0 [] ≡ list
   nothing_put = put list 0 [] (omega arith)
 
-  pub dash_read : is_dash word ≡ true → Read (Bytes 0) list
+  pub dash_read : is_dash word ≡ true → Read (Some 0) list
   unfolding decoded_of list_after bytes_in
-  dash_read e = (rw (e, le-leb 0 (length list) (omega arith)), (rw (e, nothing_put), omega arith))
+  dash_read e = (rw (e, le-leb 0 (length list) (omega arith)), rw (e, nothing_put), omega arith)
 
   module _ (no-dash : is_dash word ≡ false) where
-    pub other_word : is_pairs word ≡ false → Read Nothing list
+    pub other_word : is_pairs word ≡ false → Read None list
     unfolding decoded_of list_after
-    other_word e = (rw (no-dash, e), (rw (no-dash, e), omega arith))
+    other_word e = (rw (no-dash, e), rw (no-dash, e), omega arith)
 
     module _ (pairs : is_pairs word ≡ true) where
       -- half as many bytes as digits
@@ -43,14 +43,14 @@ module _ (word list : List ℕ) where
       pub digits_alone : span is_digit word ≡ length word
       digits_alone = all_passed word (pairs_are word pairs)
 
-      pub short_list : length list < length word / 2 → Read Nothing list
+      pub short_list : length list < length word / 2 → Read None list
       unfolding decoded_of list_after bytes_in
       short_list h =
           let same : list ≡ put_at list 0 (bytes_of word) = (no_room list 0 (bytes_of word) (omega (arith, long))).0 in
-          (rw (no-dash, pairs, long, lt-leb (length word / 2) (length list) h), (rw (no-dash, pairs) same, omega arith))
+          (rw (no-dash, pairs, long, lt-leb (length word / 2) (length list) h), rw (no-dash, pairs) same, omega arith)
 
       pub all_read
-          : (bytes : List ℕ) → length word / 2 ≤ length list → bytes ≡ put_at list 0 (bytes_of word) → Read (Bytes (length word / 2)) bytes
+          : (bytes : List ℕ) → length word / 2 ≤ length list → bytes ≡ put_at list 0 (bytes_of word) → Read (Some (length word / 2)) bytes
       unfolding decoded_of list_after bytes_in
       all_read bytes h e =
-          (rw (no-dash, pairs, long, le-leb (length word / 2) (length list) h), (rw (no-dash, pairs) e, h))
+          (rw (no-dash, pairs, long, le-leb (length word / 2) (length list) h), rw (no-dash, pairs) e, h)

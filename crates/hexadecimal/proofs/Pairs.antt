@@ -14,14 +14,13 @@ use Rattle.lines.proofs.Spans.{span_inside}
 use Rattle.hexadecimal.specs.Hexadecimal.{worth_of, is_digit, bytes_of}
 use Rattle.hexadecimal.proofs.Digits.{bytes_length, byte_at}
 
-module _ (word bytes₀ : List ℕ) (count : ℕ) where
+module _ (word bytes₀ : List ℕ) where
   -- so many bytes stand at the front, and the others stay
   pub record Filled (bytes : List ℕ) (i : ℕ) : Type 0 where
-    pub inside : i ≤ count
     pub sized : length bytes ≡ length bytes₀
     pub is : bytes ≡ paste bytes₀ 0 (bytes_of word) i
 
-  module _ (bytes : List ℕ) (i : ℕ) (f : Filled bytes i) (even : length word ≡ count * 2) (room : count ≤ length bytes₀) where
+  module _ (bytes : List ℕ) (i : ℕ) (f : Filled bytes i) (count : ℕ) (even : length word ≡ count * 2) (room : count ≤ length bytes₀) where
     pub one_filled
         : (x : ℕ) → i < count → x ≡ worth_of (get_or word (i * 2) 0) * 16 + worth_of (get_or word (i * 2 + 1) 0)
         → Filled (set bytes i x) (i + 1)
@@ -32,7 +31,6 @@ module _ (word bytes₀ : List ℕ) (count : ℕ) where
         let next : set (paste bytes₀ 0 (bytes_of word) i) (0 + i) (get_or (bytes_of word) i 0) ≡ paste bytes₀ 0 (bytes_of word) (suc i) =
         paste-suc bytes₀ 0 (bytes_of word) i 0 (omega arith) (omega arith) in
         record {
-          inside = omega arith;
           sized = length-set bytes i x ∙ f.sized;
           is =
               ap (λ (k : ℕ). set bytes k x) (sym z)
@@ -42,10 +40,10 @@ module _ (word bytes₀ : List ℕ) (count : ℕ) where
               ∙ ap (paste bytes₀ 0 (bytes_of word)) (sym (add-one i));
         }
 
-    pub all_filled : count ≤ i → bytes ≡ put_at bytes₀ 0 (bytes_of word)
+    pub all_filled : i ≡ count → bytes ≡ put_at bytes₀ 0 (bytes_of word)
     all_filled h =
         let long : length (bytes_of word) ≡ count = bytes_length word count even in
-        let z : i ≡ length (bytes_of word) = omega (arith, f.inside) in
+        let z : i ≡ length (bytes_of word) = omega arith in
         f.is ∙ ap (paste bytes₀ 0 (bytes_of word)) z ∙ copied bytes₀ 0 (bytes_of word) (omega arith)
 
 -- each byte of a word of digits alone is one

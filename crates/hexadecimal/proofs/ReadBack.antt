@@ -8,7 +8,7 @@ use borrow.Author.Tests.{lt-ltb, le-leb, eq-eqb, ne_eqb}
 use lib.ListN.{length, get_or}
 use Rattle.lines.specs.Lines.{span}
 use Rattle.lines.specs.Texts.{put_at}
-use Rattle.hexadecimal.specs.declared.Decoded.TheVariants.{Bytes}
+use Rattle.std.specs.Prelude.{Some}
 use Rattle.hexadecimal.specs.Hexadecimal.{is_digit, bytes_of, is_pairs, is_dash, is_word, bytes_in, decoded_of, list_after, digit_of, digits_of, hex_of}
 use Rattle.hexadecimal.proofs.Digits.{digits_length}
 use Rattle.hexadecimal.proofs.Worths.{digit_worth}
@@ -69,7 +69,7 @@ word_of_bytes (b ∷ bs) h =
 
 pub read_back
     : (bs list : List ℕ) → AreBytes bs → length bs ≤ length list
-    → (decoded_of (length list) (hex_of bs) ≡ Bytes (length bs)) × (list_after list (hex_of bs) ≡ put_at list 0 bs)
+    → (decoded_of (length list) (hex_of bs) ≡ Some (length bs)) × (list_after list (hex_of bs) ≡ put_at list 0 bs)
 unfolding decoded_of list_after
 read_back bs list h room =
     let both = word_of_bytes bs h in

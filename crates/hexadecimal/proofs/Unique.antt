@@ -4,15 +4,15 @@ use mathlib.Core.List.{List}
 use Prim.Native.Nat.{ℕ}
 use lib.ListN.{length}
 use Rattle.lines.specs.Texts.{put_at, place_behind}
-use Rattle.hexadecimal.specs.declared.Decoded.{Decoded}
+use Rattle.std.specs.Prelude.{Option}
 use Rattle.hexadecimal.specs.Hexadecimal.{decoded_of, list_after, hex_of}
 
 -- what the promise of `read_hex` says of an answer and the list
-abbrev pub Reads : List ℕ → List ℕ → Decoded → List ℕ → Type 0
+abbrev pub Reads : List ℕ → List ℕ → Option ℕ → List ℕ → Type 0
 Reads word bytes₀ r bytes = (r ≡ decoded_of (length bytes₀) word) × (bytes ≡ list_after bytes₀ word)
 
 pub one_read_hex
-    : (word bytes₀ : List ℕ) (r r' : Decoded) (bytes bytes' : List ℕ) → Reads word bytes₀ r bytes → Reads word bytes₀ r' bytes'
+    : (word bytes₀ : List ℕ) (r r' : Option ℕ) (bytes bytes' : List ℕ) → Reads word bytes₀ r bytes → Reads word bytes₀ r' bytes'
     → (r ≡ r') × (bytes ≡ bytes')
 one_read_hex word bytes₀ r r' bytes bytes' p q = (p.0 ∙ sym q.0, p.1 ∙ sym q.1)
 

@@ -1,10 +1,16 @@
 -- The worth of a byte, by where it lies beside the digits; and of a digit of a number, which is the number. Assumes nothing.
-use mathlib.Core.Path.{◌≡◌, sym, ◌∙◌}
-use Prim.Native.Nat.{ℕ, ◌+◌, ◌-◌, ◌≤◌, ◌<◌}
+use mathlib.Core.Path.{◌≡◌, refl, sym, ◌∙◌}
+use mathlib.Core.Bool.{Bool, true, false, cond, ◌&&◌}
+use mathlib.Core.List.{List, [], ◌∷◌}
+use Prim.Native.Nat.{ℕ, suc, ◌+◌, ◌-◌, ◌≤◌, ◌<◌}
 use native.Mathlib.Decide.{dec_lt}
 use native.Mathlib.Omega.{arith}
 use borrow.Author.Tests.{lt-ltb, le-ltb, le-leb, lt-leb}
-use Rattle.hexadecimal.specs.Hexadecimal.{worth_of, digit_of}
+use lib.Dec.{eqb, eqb-suc-suc, eqb-zero-suc}
+use lib.ListN.{length}
+use Rattle.std.specs.List.{list_all}
+use Rattle.lines.specs.Lines.{span}
+use Rattle.hexadecimal.specs.Hexadecimal.{worth_of, is_digit, digit_of}
 
 module _ (b : ℕ) where
   pub below_figures : b < 48 → 16 ≡ worth_of b
@@ -38,6 +44,18 @@ module _ (b : ℕ) where
   unfolding worth_of
   above_smalls h =
       rw (le-leb 48 b (omega arith), lt-leb b 57 (omega arith), le-leb 65 b (omega arith), lt-leb b 70 (omega arith), le-leb 97 b (omega arith), lt-leb b 102 h)
+
+-- each byte is a digit where the digits go on to the end
+pub digits_all : (word : List ℕ) → list_all is_digit word ≡ eqb (span is_digit word) (length word)
+unfolding span
+digits_all [] = refl
+digits_all (b ∷ bs) = at (is_digit b) (digits_all bs)
+  where
+    at
+        : (t : Bool) → list_all is_digit bs ≡ eqb (span is_digit bs) (length bs)
+        → (t && list_all is_digit bs) ≡ eqb (cond t (suc (span is_digit bs)) 0) (suc (length bs))
+    at true e = rw eqb-suc-suc e
+    at false e = rw eqb-zero-suc
 
 -- a digit's byte lies among the figures or the small letters, and has the number's worth
 pub digit_worth : (n : ℕ) → n < 16 → worth_of (digit_of n) ≡ n

@@ -1,10 +1,8 @@
 -- The desk's paper: "HEX is an even number of the digits 0 to 9 and a to f (capitals too when read), .. or `-` for no bytes". Cited by `read_hex` and
 -- `put_hex`. Assumes nothing.
-use Rattle.std.specs.Prelude.{Bool, cond, ◌&&◌, ◌||◌, List, [], ◌∷◌, ℕ, ◌+◌, ◌-◌, ◌*◌, ◌/◌, ◌%◌, leb, ltb, eqb, length, get_or}
+use Rattle.std.specs.Prelude.{Option, Some, None, Bool, cond, ◌&&◌, ◌||◌, List, [], ◌∷◌, ℕ, ◌+◌, ◌-◌, ◌*◌, ◌/◌, ◌%◌, leb, ltb, eqb, length, get_or}
 use Rattle.lines.specs.Lines.{span}
 use Rattle.lines.specs.Texts.{put_at}
-use Rattle.hexadecimal.specs.declared.Decoded.{Decoded}
-use Rattle.hexadecimal.specs.declared.Decoded.TheVariants.{Bytes, Nothing}
 
 -- the worth of a digit: 0 to 9 are the bytes 48 to 57, A to F 65 to 70, a to f 97 to 102; another byte has 16
 unfoldable pub worth_of : ℕ → ℕ
@@ -16,6 +14,9 @@ worth_of b =
 
 abbrev pub is_digit : ℕ → Bool
 is_digit b = ltb (worth_of b) 16
+
+abbrev pub digit_in : ℕ → Option ℕ
+digit_in b = cond (is_digit b) (Some (worth_of b)) None
 
 -- each two digits are a byte, the first the sixteens
 unfoldable pub bytes_of : List ℕ → List ℕ
@@ -38,16 +39,16 @@ unfoldable pub bytes_in : List ℕ → List ℕ
 bytes_in word = cond (is_dash word) [] (bytes_of word)
 
 -- what a word is where the list has so many places
-unfoldable pub decoded_of : (room : ℕ) → List ℕ → Decoded
-decoded_of room word = cond (is_word word && leb (length (bytes_in word)) room) (Bytes (length (bytes_in word))) Nothing
+unfoldable pub decoded_of : (room : ℕ) → List ℕ → Option ℕ
+decoded_of room word = cond (is_word word && leb (length (bytes_in word)) room) (Some (length (bytes_in word))) None
 
 -- the list afterwards: the bytes stand at its front, where it has the places
 unfoldable pub list_after : List ℕ → List ℕ → List ℕ
 list_after bytes word = cond (is_word word) (put_at bytes 0 (bytes_in word)) bytes
 
-abbrev pub count_in : Decoded → ℕ
-count_in (Bytes count) = count
-count_in Nothing = 0
+abbrev pub count_in : Option ℕ → ℕ
+count_in (Some count) = count
+count_in None = 0
 
 -- the digit of a number below 16, in small letters
 unfoldable pub digit_of : ℕ → ℕ

@@ -4,12 +4,5 @@
 mod putting;
 mod reading;
 
-// What a word is: so many bytes, or no word of digits that there is room for.
-#[derive(Clone, Copy)]
-pub enum Decoded {
-    Bytes(usize),
-    Nothing,
-}
-
 pub use putting::put_hex;
 pub use reading::read_hex;

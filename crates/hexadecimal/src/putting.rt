@@ -6,11 +6,12 @@ ghost use Rattle.hexadecimal.specs.Hexadecimal.{digit_of, digits_of, hex_of};
 use lines::put_bytes;
 
 // The digit of a number, in small letters.
+#[tactic(auto, unfolding(crate::specs::Hexadecimal::digit_of))]
 fn digit_of(n: u8) -> u8
     requires { n < 16 }
     ensures { result ≡ digit_of n }
 {
-    if n < 10 { 48 + n } else { 87 + n }
+    if n < 10 { b'0' + n } else { b'a' - 10 + n }
 }
 
 // The digits of the bytes from a place on, where there is room.
@@ -18,14 +19,10 @@ fn fill_digits(out: &mut [u8], at: usize, bytes: &[u8])
     requires { at + length bytes.now * 2 ≤ length out.old }
     ensures { out.new ≡ put_at out.old at (digits_of bytes.now) }
 {
-    let mut to = at;
-    let mut i = 0;
-    while i < bytes.len() {
-        let byte = bytes[i];
-        out[to] = digit_of(byte / 16);
-        out[to + 1] = digit_of(byte % 16);
-        to += 2;
-        i += 1;
+    for (i, byte) in bytes.iter().enumerate() {
+        let to = at + i * 2;
+        out[to] = digit_of(*byte / 16);
+        out[to + 1] = digit_of(*byte % 16);
     }
 }
 
@@ -34,7 +31,7 @@ pub fn put_hex(out: &mut [u8], at: usize, bytes: &[u8]) -> usize
     ensures out_after { out.new ≡ put_at out.old at (hex_of bytes.now) }
     ensures value { result ≡ place_behind out.old at (hex_of bytes.now) }
 {
-    if bytes.len() == 0 {
+    if bytes.is_empty() {
         return put_bytes(out, at, b"-");
     }
     if out.len() < at {

@@ -1,15 +1,15 @@
 -- Two answers that a promise allows are equal, and so are the lists that were lent: each promise is an equation for the answer and one for
 -- each lent list, and an equation leaves what it names. Assumes nothing.
 use mathlib.Core.Path.{◌≡◌, sym, ◌∙◌}
-use mathlib.Core.Bool.{Bool}
 use mathlib.Core.List.{List}
 use Prim.Native.Nat.{ℕ}
 use Rattle.intake.specs.Keeping.{kept_count, kept_of}
 use Rattle.intake.specs.Numbers.{listed_count, listed}
-use Rattle.intake.specs.Words.{given_of, signs_of, magnitudes_of}
-use Rattle.intake.specs.declared.Given.{Given}
+use Rattle.intake.specs.Words.{given_of, numbers_of}
+use Rattle.lines.specs.declared.Number.{Number}
+use Rattle.std.specs.Prelude.{Option}
 
--- of `next_line`, `next_word_lem`, `amount_at` and the numbers at a place
+-- of `next_line`, `next_word`, `amount_at` and the numbers at a place
 pub one_answer : {A : Type 0} {r s e : A} → r ≡ e → s ≡ e → r ≡ s
 one_answer p q = p ∙ sym q
 
@@ -18,12 +18,10 @@ pub one_keeping : (text : List ℕ) (from to r s : ℕ) (a b : List ℕ)
     → (r ≡ s) × (a ≡ b)
 one_keeping text from to r s a b count kept count' kept' = (one_answer count count', one_answer kept kept')
 
-pub one_reading : (line : List ℕ) (from : ℕ) (signs : List Bool) (values : List ℕ) (r s : Given) (a b : List Bool) (m n : List ℕ)
-    → r ≡ given_of line from → a ≡ signs_of line from signs → m ≡ magnitudes_of line from values
-    → s ≡ given_of line from → b ≡ signs_of line from signs → n ≡ magnitudes_of line from values
-    → (r ≡ s) × (a ≡ b) × (m ≡ n)
-one_reading line from signs values r s a b m n given put read given' put' read' =
-    (one_answer given given', one_answer put put', one_answer read read')
+pub one_reading : (line : List ℕ) (from : ℕ) (numbers : List Number) (r s : Option ℕ) (a b : List Number)
+    → r ≡ given_of line from → a ≡ numbers_of line from numbers → s ≡ given_of line from → b ≡ numbers_of line from numbers
+    → (r ≡ s) × (a ≡ b)
+one_reading line from numbers r s a b given put given' put' = (one_answer given given', one_answer put put')
 
 pub one_listing : {A : Type 0} (number : ℕ → A) (from to : ℕ) (xs : List A) (r s : ℕ) (a b : List A)
     → r ≡ listed_count from to xs → a ≡ listed number from to xs

@@ -6,73 +6,49 @@ ghost use Rattle.intake.specs.Bounds.{Within};
 use crate::{Cut, Found, Intake, LONGEST};
 use lines::line_end;
 
-const RETURN: u8 = 13;
+const RETURN: u8 = b'\r';
 
 // Where a line stops that ends at a place: before the one carriage return that may stand there.
+#[tactic(auto, unfolding(crate::specs::Cuts::stop_of))]
 fn stop_of(text: &[u8], from: usize, end: usize) -> usize
     requires { end ≤ length text.now }
     ensures { result ≡ stop_of text.now from end }
 {
-    if end <= from {
-        return end;
-    }
-    if text[end - 1] == RETURN {
+    if from < end && text[end - 1] == RETURN {
         return end - 1;
     }
     end
 }
 
 // The line that ends at a place, with the next one from another on.
+#[tactic(auto, using(crate::proofs::Stops::stop_within), unfolding(crate::specs::Cuts::line_of))]
 fn line_of(text: &[u8], at: Intake, end: usize, next: usize, unended: bool) -> Cut
     requires { (at.from ≤ end) × (end ≤ length text.now) }
     ensures { result ≡ line_of text.now at end next unended }
 {
-    let from = at.from;
-    let stop = stop_of(text, from, end);
-    let behind = Intake {
-        from: next,
-        skipping: false,
-        ended: at.ended,
-    };
-    if at.skipping {
-        return Cut {
-            found: Found::Long,
-            start: from,
-            end,
-            unended,
-            next: behind,
-        };
-    }
-    if LONGEST < stop - from {
-        return Cut {
-            found: Found::Long,
-            start: from,
-            end,
-            unended,
-            next: behind,
-        };
-    }
+    let stop = stop_of(text, at.from, end);
+    let long = at.skipping || LONGEST < stop - at.from;
     Cut {
-        found: Found::Line,
-        start: from,
-        end: stop,
+        found: if long { Found::Long } else { Found::Line },
+        start: at.from,
+        end: if long { end } else { stop },
         unended,
-        next: behind,
+        next: Intake {
+            from: next,
+            skipping: false,
+            ended: at.ended,
+        },
     }
 }
 
 // The input's last line, which has no newline; or nothing, where there is no line.
-#[tactic(auto, using(crate::proofs::Ways::last_skipped, crate::proofs::Ways::last_line, crate::proofs::Ways::no_line))]
+#[tactic(auto, unfolding(crate::specs::Cuts::last_of))]
 fn last_of(text: &[u8], at: Intake) -> Cut
     requires { at.from ≤ length text.now }
     ensures { result ≡ last_of text.now at }
 {
-    let from = at.from;
     let end = text.len();
-    if at.skipping {
-        return line_of(text, at, end, end, true);
-    }
-    if from < end {
+    if at.skipping || at.from < end {
         return line_of(text, at, end, end, true);
     }
     Cut {
@@ -85,43 +61,27 @@ fn last_of(text: &[u8], at: Intake) -> Cut
 }
 
 // A line without an end so far: its bytes are kept, or dropped where they are already too many, with a carriage return at their end.
+#[tactic(auto, unfolding(crate::specs::Cuts::unended_of))]
 fn unended_of(at: Intake, end: usize) -> Cut
     requires { at.from ≤ end }
     ensures { result ≡ unended_of at end }
 {
-    let from = at.from;
     let dropped = Intake {
         from: end,
         skipping: true,
         ended: at.ended,
     };
-    if at.skipping {
-        return Cut {
-            found: Found::More,
-            start: from,
-            end,
-            unended: false,
-            next: dropped,
-        };
-    }
-    if LONGEST + 1 < end - from {
-        return Cut {
-            found: Found::More,
-            start: from,
-            end,
-            unended: false,
-            next: dropped,
-        };
-    }
+    let too_many = at.skipping || LONGEST + 1 < end - at.from;
     Cut {
         found: Found::More,
-        start: from,
+        start: at.from,
         end,
         unended: false,
-        next: at,
+        next: if too_many { dropped } else { at },
     }
 }
 
+#[tactic(auto, using(lines::proofs::FirstWord::line_from), unfolding(crate::specs::Cuts::cut_from))]
 fn cut(text: &[u8], at: Intake) -> Cut
     requires { at.from ≤ length text.now }
     ensures { result ≡ cut_from text.now at }
@@ -137,16 +97,13 @@ fn cut(text: &[u8], at: Intake) -> Cut
 }
 
 // Where reading stands: at the end of the bytes where the place is beyond them.
+#[tactic(auto, unfolding(crate::specs::Cuts::standing_of))]
 fn standing_of(text: &[u8], at: Intake) -> Intake
     ensures { result ≡ standing_of text.now at }
 {
-    if at.from <= text.len() {
-        return at;
-    }
     Intake {
-        from: text.len(),
-        skipping: at.skipping,
-        ended: at.ended,
+        from: at.from.min(text.len()),
+        ..at
     }
 }
 

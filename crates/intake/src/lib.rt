@@ -72,19 +72,9 @@ pub enum Mark {
     Nothing,
 }
 
-// The words behind a line's first: so many numbers, or not numbers alone.
-#[derive(Clone, Copy)]
-pub enum Given {
-    Numbers(usize),
-    Others,
-}
-
 pub use cuts::next_line;
 pub use keeping::keep;
 pub use leads::{is_open, lead_of};
 pub use lists::{read_coefficients, read_places, read_weights};
 pub use marks::mark_of;
-pub use numbers::{
-    amount_at, asks_nothing, i64_at, next_word, put_magnitude, put_sign, read_numbers, u8_at,
-    u16_at, u32_at, u64_at,
-};
+pub use numbers::{amount_at, asks_nothing, next_word, nth, put, read_numbers};

@@ -11,26 +11,13 @@ const SECOND: u8 = 187;
 const THIRD: u8 = 191;
 
 // What the first bytes of the input are.
+#[tactic(auto, unfolding(crate::specs::Marks::begins_with))]
 pub fn mark_of(bytes: &[u8]) -> Mark
     ensures { result ≡ mark_of bytes.now }
 {
-    if bytes.len() == 0 {
-        return Mark::Part;
+    match bytes {
+        [] | [FIRST] | [FIRST, SECOND] => Mark::Part,
+        [FIRST, SECOND, THIRD, ..] => Mark::Whole,
+        _ => Mark::Nothing,
     }
-    if bytes[0] != FIRST {
-        return Mark::Nothing;
-    }
-    if bytes.len() == 1 {
-        return Mark::Part;
-    }
-    if bytes[1] != SECOND {
-        return Mark::Nothing;
-    }
-    if bytes.len() == 2 {
-        return Mark::Part;
-    }
-    if bytes[2] != THIRD {
-        return Mark::Nothing;
-    }
-    Mark::Whole
 }

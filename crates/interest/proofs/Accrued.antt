@@ -1,5 +1,6 @@
 -- An interest by sign and magnitude, as the program computes it: where no row holds its factors are within their limits, so the leaf
 -- rounds their product, and what the program makes is what document 01 says of the principal. Assumes nothing.
+use Rattle.std.specs.Prelude.{Ok, Err}
 use mathlib.Core.Path.{◌≡◌, sym, ◌∙◌, ap, ap₂}
 use mathlib.Core.Bool.{Bool}
 use mathlib.Core.List.{List}
@@ -9,7 +10,6 @@ use native.Mathlib.Omega.{arith}
 use borrow.Author.Tests.{ltb-false}
 use lib.IntN.{ℤ}
 use Rattle.refusal.specs.declared.Refusal.{Refusal}
-use Rattle.refusal.specs.declared.Checked.TheVariants.{Passed, Refused}
 use Rattle.refusal.specs.Number.{number_of, blamed_of}
 use Rattle.refusal.specs.Rows.{Said, gives, refuses, Row, first_row, check_of}
 use Rattle.refusal.proofs.Check.{passed, refused, behind, clear}
@@ -28,7 +28,9 @@ use Rattle.amount.specs.Amounts.{largest, limited}
 use Rattle.calendar.specs.declared.Date.{Date}
 use Rattle.calendar.specs.DayCount.{basis_of}
 use Rattle.calendar.specs.DaysSaid.{days_rows, days_said}
-use Rattle.interest.specs.Interest.{last_rate, interest_rows, interest_of, interest_made}
+use Rattle.rounding.specs.Modes.{rule_of, choice_of}
+use Rattle.rounding.proofs.Chosen.{mode_chosen, rule_chosen}
+use Rattle.interest.specs.Interest.{last_rate, interest_rows, interest_of, interest_made, interest_said}
 use Rattle.interest.specs.Accrual.{front_rows, Accrues, accrued_to, interest_by_rule}
 use Rattle.refusal.proofs.Joined.{front_refused, same_value, let_pass, same_refused}
 use Rattle.calendar.proofs.Bases.{year_within}
@@ -36,7 +38,7 @@ use Rattle.calendar.proofs.DaysRows.{Counted, counted}
 
 -- what a day count that was given tells: no row of it holds, and it is the basis's
 module _ (basis : ℕ) (start end : Date) (n : ℕ) (told : gives n ≡ days_said basis start end) where
-  pub days_passed : check_of (days_rows basis start end) ≡ Passed
+  pub days_passed : check_of (days_rows basis start end) ≡ Ok tt
   unfolding days_said
   days_passed = let_pass ((basis_of basis).count start end) n (days_rows basis start end) (sym told)
 
@@ -44,7 +46,7 @@ module _ (basis : ℕ) (start end : Date) (n : ℕ) (told : gives n ≡ days_sai
   unfolding days_said
   days_are = same_value ((basis_of basis).count start end) n (days_rows basis start end) (sym told)
 
-pub accrues : (scale m : ℕ) (currency : Currency) (rate basis : ℕ) (start end : Date) (n : ℕ) → check_of (front_rows scale m currency rate) ≡ Passed
+pub accrues : (scale m : ℕ) (currency : Currency) (rate basis : ℕ) (start end : Date) (n : ℕ) → check_of (front_rows scale m currency rate) ≡ Ok tt
     → gives n ≡ days_said basis start end → Accrues m rate n
 accrues scale m currency rate basis start end n e told =
     let rows = clear (front_rows scale m currency rate) e in
@@ -104,23 +106,23 @@ module _ (rule : Rule) (a : Amount) (rate basis : ℕ) (start end : Date) (m : �
   same_magnitude : first_row (rows m) made ≡ interest_by_rule rule a rate basis start end
   same_magnitude = ap (λ (x : ℕ). first_row (rows x) made) magnitudes
 
-  pub said_refused : (r : Refusal) → check_of front ≡ Refused r
+  pub said_refused : (r : Refusal) → check_of front ≡ Err r
       → refuses (number_of r) (blamed_of r) ≡ interest_by_rule rule a rate basis start end
   unfolding interest_rows
   said_refused r e = sym (refused made (rows m) r (front_refused front (days_rows basis start end) r e)) ∙ same_magnitude
 
-  behind_rate : check_of front ≡ Passed → first_row (days_rows basis start end) made ≡ interest_by_rule rule a rate basis start end
+  behind_rate : check_of front ≡ Ok tt → first_row (days_rows basis start end) made ≡ interest_by_rule rule a rate basis start end
   unfolding interest_rows
   behind_rate e =
       sym (behind made front (days_rows basis start end) ∙ passed (first_row (days_rows basis start end) made) front e) ∙ same_magnitude
 
-  pub said_no_days : (r : Refusal) → check_of front ≡ Passed → refuses (number_of r) (blamed_of r) ≡ days_said basis start end
+  pub said_no_days : (r : Refusal) → check_of front ≡ Ok tt → refuses (number_of r) (blamed_of r) ≡ days_said basis start end
       → refuses (number_of r) (blamed_of r) ≡ interest_by_rule rule a rate basis start end
   unfolding days_said
   said_no_days r e told =
       sym (same_refused ((basis_of basis).count start end) made (number_of r) (blamed_of r) (days_rows basis start end) (sym told)) ∙ behind_rate e
 
-  pub said_made : (sign : Bool) → sign ≡ negative a.coefficient → (n : ℤ) (days : ℕ) → n ≡ accrued_to rule sign m rate basis days → check_of front ≡ Passed
+  pub said_made : (sign : Bool) → sign ≡ negative a.coefficient → (n : ℤ) (days : ℕ) → n ≡ accrued_to rule sign m rate basis days → check_of front ≡ Ok tt
       → gives days ≡ days_said basis start end
       → limited n (record { currency = a.currency; scale = a.scale; coefficient = n }) ≡ interest_by_rule rule a rate basis start end
   said_made sign signs n days is e told =
@@ -132,3 +134,13 @@ module _ (rule : Rule) (a : Amount) (rate basis : ℕ) (start end : Date) (m : �
       ap (λ (x : ℤ). limited x (record { currency = a.currency; scale = a.scale; coefficient = x })) same
       ∙ sym (passed made (days_rows basis start end) (days_passed basis start end days told))
       ∙ behind_rate e
+
+-- and in front of it row 1, where the mode has a rule
+pub with_mode : (rule : Rule) (a : Amount) (rate basis : ℕ) (start end : Date) (mode : ℕ) → choice_of mode ≡ Ok rule
+    → interest_by_rule rule a rate basis start end ≡ interest_said a rate basis start end mode
+unfolding interest_said
+with_mode rule a rate basis start end mode chosen =
+    ap (λ (x : Rule). interest_by_rule x a rate basis start end) (sym (rule_chosen mode rule chosen))
+    ∙ sym
+    (mode_chosen (interest_made (rule_of mode) a rate basis start end)
+    (interest_rows a.scale (magnitude_of a.coefficient) a.currency rate basis start end) mode rule chosen)

@@ -1,14 +1,15 @@
 -- What the promise of an interest leaves open: nothing. Two answers that it allows for the same arguments are equal, since an answer is
 -- known by what it says. Assumes nothing.
-use mathlib.Core.Path.{◌≡◌, sym, ◌∙◌}
+use Rattle.refusal.proofs.OneToOne.{one_said}
+use Rattle.std.specs.Prelude.{Result}
+use Rattle.refusal.specs.Rows.{means}
+use mathlib.Core.Path.{◌≡◌}
 use Prim.Native.Nat.{ℕ}
 use Rattle.amount.specs.declared.Amount.{Amount}
-use Rattle.amount.specs.declared.Answer.{Answer}
-use Rattle.amount.specs.Amounts.{means_amount}
-use Rattle.amount.proofs.Unique.{same_answer}
 use Rattle.calendar.specs.declared.Date.{Date}
+use Rattle.refusal.specs.declared.Refusal.{Refusal}
 use Rattle.interest.specs.Interest.{interest_said}
 
-pub one_interest : (a : Amount) (rate basis : ℕ) (start end : Date) (mode : ℕ) (r s : Answer)
-    → means_amount r ≡ interest_said a rate basis start end mode → means_amount s ≡ interest_said a rate basis start end mode → r ≡ s
-one_interest a rate basis start end mode r s p q = same_answer r s (p ∙ sym q)
+pub one_interest : (a : Amount) (rate basis : ℕ) (start end : Date) (mode : ℕ) (r s : Result Amount Refusal)
+    → means r ≡ interest_said a rate basis start end mode → means s ≡ interest_said a rate basis start end mode → r ≡ s
+one_interest a rate basis start end mode r s = one_said r s (interest_said a rate basis start end mode)

@@ -1,9 +1,10 @@
 -- A number read digit by digit: each digit brings the sum of the digits before it to the sum with it, kept at the largest that a u64
 -- holds once it would pass that, and what is kept there stays there. A byte that is no digit ends the reading with nothing.
 -- Assumes nothing.
-use mathlib.Core.Path.{◌≡◌, refl, ◌∙◌, ap}
+use mathlib.Core.Path.{◌≡◌, refl, ap}
 use mathlib.Core.Bool.{Bool, true, false, cond, ◌&&◌}
 use mathlib.Core.List.{List, [], ◌∷◌}
+use mathlib.Core.Logic.{◌⊎◌, inl, inr}
 use Prim.Native.Nat.{ℕ, zero, suc, ◌+◌, ◌-◌, ◌*◌, ◌≤◌, ◌<◌, min}
 use native.Mathlib.Nat.{sub-zero, zero-sub, suc-sub-suc}
 use native.Mathlib.Decide.{dec_le}
@@ -11,13 +12,13 @@ use native.Mathlib.Numerals.{add-one}
 use native.Mathlib.Omega.{arith}
 use borrow.Author.Tests.{lt-ltb, le-leb, lt-leb, eq-eqb, ne_eqb}
 use lib.Dec.{leb, eqb, eqb-suc-suc, eqb-zero-suc}
-use lib.ListN.{length, get_or, take, drop}
-use lib.Seq.{take-nil, slice, slice-cons, slice_empty, length-slice}
-use Rattle.lines.specs.Lines.{span, is_digit, worth, most, whole_of, number_of}
+use lib.ListN.{length, get_or, take, drop, drop_of_length-le}
+use lib.Seq.{drop-cons, take-nil, slice}
+use Rattle.lines.specs.Lines.{digit_in, whole, span, is_digit, worth, most, whole_of, number_of}
 use Rattle.lines.specs.Reads.{number_at}
 use Rattle.lines.specs.declared.Word.{Word}
 use Rattle.lines.specs.declared.Number.{Number}
-use Rattle.lines.specs.declared.Number.TheVariants.{Whole, Nothing}
+use Rattle.std.specs.Prelude.{Option, Some, None}
 
 worth_least : (s : ℕ) (bs : List ℕ) → s ≤ worth s bs
 unfolding worth
@@ -35,8 +36,8 @@ topped s bs = at (dec_le s most)
         rw e (omega (arith, worth_least s bs, worth_least most bs))
 
 -- what the digits that are left give, after those whose sum is known
-abbrev pub scanned : Bool → ℕ → List ℕ → Number
-scanned sign sum bs = cond (eqb (span is_digit bs) (length bs)) (Whole sign (min (worth sum bs) most)) Nothing
+abbrev pub scanned : Bool → ℕ → List ℕ → Option Number
+scanned sign sum bs = cond (eqb (span is_digit bs) (length bs)) (whole sign (min (worth sum bs) most)) None
 
 pub digit : (b : ℕ) → 48 ≤ b → b ≤ 57 → is_digit b ≡ true
 digit b l h = rw (le-leb 48 b l, le-leb b 57 h)
@@ -47,7 +48,7 @@ below_digits b h = rw (lt-leb 48 b h)
 pub above_digits : (b : ℕ) → 57 < b → is_digit b ≡ false
 above_digits b h = rw (le-leb 48 b (omega arith), lt-leb b 57 h)
 
-stops : (sign : Bool) (sum b : ℕ) (bs : List ℕ) → is_digit b ≡ false → scanned sign sum (b ∷ bs) ≡ Nothing
+stops : (sign : Bool) (sum b : ℕ) (bs : List ℕ) → is_digit b ≡ false → scanned sign sum (b ∷ bs) ≡ None
 unfolding span
 stops sign sum b bs e = rw (e, eqb-zero-suc (length bs))
 
@@ -57,25 +58,33 @@ goes_on
 unfolding span worth
 goes_on sign sum b bs e = rw (e, eqb-suc-suc (span is_digit bs) (length bs), topped (sum * 10 + (b - 48)) bs)
 
--- the same over the bytes of a line up to a place
-module _ (sign : Bool) (line : List ℕ) (from to : ℕ) (end : to ≤ length line) where
-  pub no_digits : from ≡ to → whole_of sign (slice from to line) ≡ Nothing
-  no_digits e = rw (e, slice_empty to line)
+-- what `digit_in` says of a byte
+no_digit : (t : Bool) (n : ℕ) → cond t (Some n) None ≡ None → t ≡ false
+no_digit true n e = absurd (let z : ◌≡◌ {A = ℕ} 0 1 = cc in omega arith)
+no_digit false n e = refl
 
-  pub reading : from < to → whole_of sign (slice from to line) ≡ scanned sign 0 (slice from to line)
-  reading h = rw (lt-ltb 0 (length (slice from to line)) (omega (arith, length-slice from to line end)))
+a_digit : (t : Bool) (n d : ℕ) → cond t (Some n) None ≡ Some d → (t ≡ true) × (n ≡ d)
+a_digit true n d e = (refl, cc)
+a_digit false n d e = absurd (let z : ◌≡◌ {A = ℕ} 0 1 = cc in omega arith)
 
-  pub bad : (sum : ℕ) → from < to → is_digit (get_or line from 0) ≡ false → scanned sign sum (slice from to line) ≡ Nothing
-  bad sum h e = rw (slice-cons from to line 0 h end) (stops sign sum (get_or line from 0) (slice (suc from) to line) e)
+pub reading : (sign : Bool) (bs : List ℕ) → 0 < length bs → whole_of sign bs ≡ scanned sign 0 bs
+reading sign bs h = rw (lt-ltb 0 (length bs) h)
+
+-- the same over the bytes from a place on
+module _ (sign : Bool) (bs : List ℕ) (i : ℕ) where
+  pub bad : (sum : ℕ) → i < length bs → digit_in (get_or bs i 0) ≡ None → scanned sign sum (drop i bs) ≡ None
+  bad sum h e = rw (drop-cons bs i 0 h) (stops sign sum (get_or bs i 0) (drop (suc i) bs) (no_digit (is_digit (get_or bs i 0)) (get_or bs i 0 - 48) e))
 
   pub good
-      : (sum : ℕ) → from < to → is_digit (get_or line from 0) ≡ true
-      → scanned sign sum (slice from to line) ≡ scanned sign (min (sum * 10 + (get_or line from 0 - 48)) most) (slice (from + 1) to line)
-  good sum h e = rw (slice-cons from to line 0 h end, add-one) (goes_on sign sum (get_or line from 0) (slice (suc from) to line) e)
+      : (sum d : ℕ) → i < length bs → digit_in (get_or bs i 0) ≡ Some d
+      → scanned sign sum (drop i bs) ≡ scanned sign (min (sum * 10 + d) most) (drop (i + 1) bs)
+  good sum d h e =
+      let is = a_digit (is_digit (get_or bs i 0)) (get_or bs i 0 - 48) d e in
+      rw (drop-cons bs i 0 h, add-one, ← is.1) (goes_on sign sum (get_or bs i 0) (drop (suc i) bs) is.0)
 
-  pub done : (sum : ℕ) → sum ≤ most → from ≡ to → scanned sign sum (slice from to line) ≡ Whole sign sum
+  pub done : (sum : ℕ) → sum ≤ most → length bs ≤ i → scanned sign sum (drop i bs) ≡ whole sign sum
   unfolding span worth
-  done sum h e = rw (e, slice_empty to line) (ap (Whole sign) (omega arith))
+  done sum h l = rw (drop_of_length-le bs l) (ap (whole sign) (omega arith))
 
 -- the bytes of a word
 pub part : {A : Type 0} (from to : ℕ) (bs : List A) → take (to - from) (drop from bs) ≡ slice from to bs
@@ -85,39 +94,28 @@ part (suc from) (suc to) [] = take-nil (suc to - suc from)
 part (suc from) (suc to) (b ∷ bs) = rw (suc-sub-suc to from) (part from to bs)
 
 module _ (line : List ℕ) (word : Word) where
-  pub empty : word.end ≤ word.start → number_at line word ≡ Nothing
-  unfolding number_at number_of span worth
-  empty h = at (dec_le word.start word.end)
-    where
-      both : (t : Bool) → cond t (number_of []) Nothing ≡ Nothing
-      both true = refl
-      both false = refl
-
-      at : Dec (word.start ≤ word.end) → number_at line word ≡ Nothing
-      at (yes l) = let e : word.end - word.start ≡ 0 = omega arith in rw e (both (leb word.start word.end && leb word.end (length line)))
-      at (no l) = rw (lt-leb word.start word.end (omega arith))
-
-  pub outside : length line < word.end → number_at line word ≡ Nothing
+  pub outside : (word.end < word.start) ⊎ (length line < word.end) → number_at line word ≡ None
   unfolding number_at
-  outside h = rw (lt-leb word.end (length line) h) (never (leb word.start word.end))
+  outside (inl h) = rw (lt-leb word.start word.end h)
+  outside (inr h) = rw (lt-leb word.end (length line) h) (never (leb word.start word.end))
     where
-      never : (t : Bool) → cond (t && false) (number_of (take (word.end - word.start) (drop word.start line))) Nothing ≡ Nothing
+      never : (t : Bool) → cond (t && false) (number_of (take (word.end - word.start) (drop word.start line))) None ≡ None
       never true = refl
       never false = refl
 
-  module _ (some : word.start < word.end) (in-line : word.end ≤ length line) where
-    there : number_at line word ≡ number_of (get_or line word.start 0 ∷ slice (suc word.start) word.end line)
-    unfolding number_at
-    there =
-        rw (le-leb word.start word.end (omega arith), le-leb word.end (length line) in-line)
-        (ap number_of (part word.start word.end line ∙ slice-cons word.start word.end line 0 some in-line))
+  pub inside : word.start ≤ word.end → word.end ≤ length line → number_at line word ≡ number_of (take (word.end - word.start) (drop word.start line))
+  unfolding number_at
+  inside h l = rw (le-leb word.start word.end h, le-leb word.end (length line) l)
 
-    pub with_minus : get_or line word.start 0 ≡ 45 → whole_of true (slice (word.start + 1) word.end line) ≡ number_at line word
-    unfolding number_of
-    with_minus e = rw (there, eq-eqb (get_or line word.start 0) 45 e, add-one)
+pub none_there : (bs : List ℕ) → length bs ≡ 0 → number_of bs ≡ None
+unfolding number_of span worth
+none_there [] e = refl
+none_there (b ∷ bs) e = absurd (omega arith)
 
-    pub with_none : (get_or line word.start 0 ≡ 45 → ⊥) → whole_of false (slice word.start word.end line) ≡ number_at line word
-    unfolding number_of
-    with_none e =
-        rw (there, ne_eqb (get_or line word.start 0) 45 e)
-        (ap (whole_of false) (slice-cons word.start word.end line 0 some in-line))
+pub with_minus : (bs : List ℕ) (b : ℕ) (rest : List ℕ) → bs ≡ b ∷ rest → b ≡ 45 → number_of bs ≡ whole_of true rest
+unfolding number_of
+with_minus bs b rest e h = rw (e, eq-eqb b 45 h)
+
+pub with_none : (bs : List ℕ) (b : ℕ) (rest : List ℕ) → bs ≡ b ∷ rest → (b ≡ 45 → ⊥) → number_of bs ≡ whole_of false bs
+unfolding number_of
+with_none bs b rest e h = rw (e, ne_eqb b 45 h)

@@ -2,13 +2,20 @@
 -- where that byte does not pass, and where there is no byte. What it passed over passes, and what stands behind it does not.
 -- Assumes nothing.
 use mathlib.Core.Path.{◌≡◌, refl, ◌∙◌, ap}
-use mathlib.Core.Bool.{Bool, true, false, cond}
+use mathlib.Core.Bool.{Bool, true, false, not, cond}
 use mathlib.Core.List.{List, [], ◌∷◌}
 use Prim.Native.Nat.{ℕ, zero, suc, ◌+◌, ◌-◌, ◌≤◌, ◌<◌}
 use native.Mathlib.Numerals.{add-one}
+use native.Mathlib.Decide.{dec_lt}
 use native.Mathlib.Omega.{arith}
+use borrow.Author.Tests.{lt-ltb, le-ltb}
+use lib.Dec.{ltb}
 use lib.ListN.{length, get_or, drop, length-drop, drop_of_length-le}
 use lib.Seq.{drop-cons, get_or-drop}
+use Rattle.std.specs.Prelude.{Option, Some, None}
+use Rattle.std.specs.List.{position_or_len}
+use Rattle.std.specs.Option.{unwrap_or}
+use Rattle.std.proofs.lemmas.List.Recursion.{is_position_or_len}
 use Rattle.lines.specs.Lines.{span}
 
 module _ (passes : ℕ → Bool) where
@@ -43,6 +50,24 @@ module _ (passes : ℕ → Bool) where
           → cond t (suc (span passes bs)) 0 < suc (length bs) → passes (get_or (b ∷ bs) (cond t (suc (span passes bs)) 0) 0) ≡ false
       at true e more h = more (omega arith)
       at false e more h = e
+
+  -- it is the place of the first that does not pass, or the length where each passes
+  span_first : (bs : List ℕ) → span passes bs ≡ position_or_len (λ b. not (passes b)) bs
+  unfolding span
+  span_first bs = is_position_or_len (span passes) (λ b. not (passes b)) refl (λ b bs. at (passes b) (span passes bs)) bs
+    where
+      at : (t : Bool) (n : ℕ) → cond t (suc n) 0 ≡ cond (not t) 0 (1 + n)
+      at true n = omega arith
+      at false n = refl
+
+  pub first_found
+      : (bs : List ℕ) (r : Option ℕ) (n : ℕ) → n ≡ position_or_len (λ b. not (passes b)) bs → r ≡ cond (ltb n (length bs)) (Some n) None
+      → unwrap_or r (length bs) ≡ span passes bs
+  first_found bs r n e is = at (dec_lt n (length bs))
+    where
+      at : Dec (n < length bs) → unwrap_or r (length bs) ≡ span passes bs
+      at (yes h) = rw (is, lt-ltb n (length bs) h) (omega (arith, span_first bs))
+      at (no h) = rw (is, le-ltb n (length bs) (omega arith)) (omega (arith, span_first bs, span_le bs))
 
 -- where a scan from a place on ends
 abbrev pub ends : (ℕ → Bool) → List ℕ → ℕ → ℕ

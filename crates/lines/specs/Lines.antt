@@ -1,10 +1,9 @@
 -- A line of text, its words and its whole numbers, as the programs read them: bytes of ASCII. Cited by the functions of `lines`.
 -- Assumes nothing.
-use Rattle.std.specs.Prelude.{Bool, true, false, not, cond, ◌&&◌, List, [], ◌∷◌, ℕ, suc, ◌+◌, ◌-◌, ◌*◌, ◌^◌, min, leb, ltb, eqb, ℤ, length, get_or, drop}
+use Rattle.std.specs.Prelude.{Option, Some, None, Bool, true, false, not, cond, ◌&&◌, List, [], ◌∷◌, ℕ, suc, ◌+◌, ◌-◌, ◌*◌, ◌^◌, min, leb, ltb, eqb, ℤ, length, get_or, drop}
 use Rattle.whole.specs.Whole.{signed_of}
 use Rattle.lines.specs.declared.Word.{Word}
 use Rattle.lines.specs.declared.Number.{Number}
-use Rattle.lines.specs.declared.Number.TheVariants.{Whole, Nothing}
 
 -- "A line ends at a newline or at the end of the input"; "a tab is no space"
 abbrev pub is_newline : ℕ → Bool
@@ -15,6 +14,10 @@ is_space b = eqb b 32
 
 abbrev pub is_digit : ℕ → Bool
 is_digit b = leb 48 b && leb b 57
+
+-- the worth of a digit, where the byte is one
+abbrev pub digit_in : ℕ → Option ℕ
+digit_in b = cond (is_digit b) (Some (b - 48)) None
 
 -- how many bytes in front pass a test
 unfoldable pub span : (ℕ → Bool) → List ℕ → ℕ
@@ -45,10 +48,19 @@ most = 2 ^ 64 - 1
 
 -- "whole numbers in decimal, an optional `-` in front (no `+`), leading zeros allowed": sign and magnitude, or nothing. A magnitude
 -- past a u64 is the largest that it holds.
-abbrev pub whole_of : Bool → List ℕ → Number
-whole_of sign bs = cond (are_digits bs) (Whole sign (min (worth 0 bs) most)) Nothing
+abbrev pub number : Bool → ℕ → Number
+number sign m = record { negative = sign; magnitude = m }
 
-unfoldable pub number_of : List ℕ → Number
+abbrev pub nought : Number
+nought = number false 0
+
+abbrev pub whole : Bool → ℕ → Option Number
+whole sign m = Some (number sign m)
+
+abbrev pub whole_of : Bool → List ℕ → Option Number
+whole_of sign bs = cond (are_digits bs) (whole sign (min (worth 0 bs) most)) None
+
+unfoldable pub number_of : List ℕ → Option Number
 number_of bs = cond (eqb (get_or bs 0 0) 45) (whole_of true (drop 1 bs)) (whole_of false bs)
 
 -- "A number that the library's type can't hold is passed as that type's largest value, or, below the range of a signed type, its least"

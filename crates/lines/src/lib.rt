@@ -12,13 +12,19 @@ pub struct Word {
     pub end: usize,
 }
 
-// A whole number as read: whether it has a minus, and its magnitude; or nothing.
+// A whole number as read: whether it has a minus, and its magnitude.
 #[derive(Clone, Copy)]
-pub enum Number {
-    Whole(bool, u64),
-    Nothing,
+pub struct Number {
+    pub negative: bool,
+    pub magnitude: u64,
 }
 
-pub use numbers::{as_i64, as_u8, as_u16, as_u32, as_unsigned, read_number};
+// The number 0: what stands where there is no number.
+pub const NOUGHT: Number = Number {
+    negative: false,
+    magnitude: 0,
+};
+
+pub use numbers::read_number;
 pub use texts::{places, put_bytes, put_number};
 pub use words::{line_end, word_from};

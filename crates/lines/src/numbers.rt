@@ -1,121 +1,115 @@
 // Whole numbers read from bytes, and passed on in a type that may be too small for them.
-ghost use Rattle.std.specs.Prelude.{◌≡◌, ◌&&◌, min, ◌+◌, ◌*◌, ◌<◌, ◌≤◌, ltb, length};
-ghost use Rattle.std.proofs.Math.Seq.{slice};
-ghost use Rattle.lines.specs.Lines.{most, whole_of, as_unsigned, as_signed};
+ghost use Rattle.std.specs.Prelude.{◌≡◌, ◌&&◌, min, ◌+◌, ◌*◌, ltb};
+ghost use Rattle.lines.specs.Lines.{most, digit_in, whole_of, as_unsigned, as_signed};
 ghost use Rattle.lines.specs.Reads.{number_at};
 
 use crate::{Number, Word};
 use whole::signed;
 
-// The largest magnitude that is read.
-const MOST: u64 = 18_446_744_073_709_551_615;
+const MINUS: u8 = b'-';
 
-// A sum with one digit more behind it, or the most where that is too large.
-fn with_digit(sum: u64, digit: u64) -> u64
-    requires { digit < 10 }
-    ensures { result ≡ min (sum * 10 + digit) most }
+// The worth of a decimal digit, where the byte is one.
+fn digit_in(byte: u8) -> Option<u8>
+    ensures { result ≡ digit_in byte }
 {
-    if 1_844_674_407_370_955_161 < sum {
-        return MOST;
+    match byte {
+        b'0'..=b'9' => Some(byte - b'0'),
+        _ => None,
     }
-    let tens = sum * 10;
-    if MOST - tens < digit {
-        return MOST;
-    }
-    tens + digit
 }
 
-// The number of the decimal digits from one place up to another, with a given sign.
-fn whole_in(line: &[u8], from: usize, to: usize, negative: bool) -> Number
-    requires { (from ≤ to) × (to ≤ length line.now) }
-    ensures { result ≡ whole_of negative (slice from to line.now) }
+// A sum with one digit more behind it, or the most that a u64 holds where that is too large.
+fn with_digit(sum: u64, digit: u8) -> u64
+    ensures { result ≡ min (sum * 10 + digit) most }
 {
-    if from == to {
-        return Number::Nothing;
+    sum.saturating_mul(10).saturating_add(u64::from(digit))
+}
+
+// The number of decimal digits, at least one, with a given sign.
+fn whole_of(digits: &[u8], negative: bool) -> Option<Number>
+    ensures { result ≡ whole_of negative digits.now }
+{
+    if digits.is_empty() {
+        return None;
     }
-    let mut sum: u64 = 0;
-    let mut i = from;
-    while i < to {
-        let byte = line[i];
-        if byte < 48 {
-            return Number::Nothing;
-        }
-        if 57 < byte {
-            return Number::Nothing;
-        }
-        sum = with_digit(sum, (byte - 48) as u64);
-        i += 1;
+    let mut magnitude: u64 = 0;
+    for byte in digits {
+        magnitude = with_digit(magnitude, digit_in(*byte)?);
     }
-    Number::Whole(negative, sum)
+    Some(Number {
+        negative,
+        magnitude,
+    })
 }
 
 // The number that a word of a line is. A magnitude past a u64 is the largest that it holds.
-pub fn read_number(line: &[u8], word: Word) -> Number
+pub fn read_number(line: &[u8], word: Word) -> Option<Number>
     ensures { result ≡ number_at line.now word }
 {
-    let start = word.start;
-    let end = word.end;
-    if end <= start {
-        return Number::Nothing;
-    }
-    if line.len() < end {
-        return Number::Nothing;
-    }
-    if line[start] == 45 {
-        whole_in(line, start + 1, end, true)
+    let bytes = line.get(word.start..word.end)?;
+    let (first, behind) = bytes.split_first()?;
+    if *first == MINUS {
+        whole_of(behind, true)
     } else {
-        whole_in(line, start, end, false)
+        whole_of(bytes, false)
     }
 }
 
-// Whether a sign and a magnitude stand for a number below 0, which -0 is not.
-pub fn below_zero(negative: bool, m: u64) -> bool
-    ensures { result ≡ (negative && ltb 0 m) }
-{
-    if negative { 0 < m } else { false }
-}
-
-// The number as an unsigned type with this largest value holds it: the largest where it can't.
-pub fn as_unsigned(largest: u64, negative: bool, m: u64) -> u64
-    ensures { result ≡ as_unsigned largest negative m }
-{
-    if below_zero(negative, m) {
-        return largest;
+impl Number {
+    // Whether it is below 0, which -0 is not.
+    pub fn below_zero(self) -> bool
+        ensures { result ≡ (self.negative && ltb 0 self.magnitude) }
+    {
+        self.negative && 0 < self.magnitude
     }
-    if largest < m { largest } else { m }
-}
 
-pub fn as_u8(negative: bool, m: u64) -> u8
-    ensures { result ≡ as_unsigned 255 negative m }
-{
-    as_unsigned(255, negative, m) as u8
-}
-
-pub fn as_u16(negative: bool, m: u64) -> u16
-    ensures { result ≡ as_unsigned 65535 negative m }
-{
-    as_unsigned(65_535, negative, m) as u16
-}
-
-pub fn as_u32(negative: bool, m: u64) -> u32
-    ensures { result ≡ as_unsigned 4294967295 negative m }
-{
-    as_unsigned(4_294_967_295, negative, m) as u32
-}
-
-// The number as an i64 holds it: the nearer end of its range where it can't.
-pub fn as_i64(negative: bool, m: u64) -> i64
-    ensures { result ≡ as_signed negative m }
-{
-    if negative {
-        if 9_223_372_036_854_775_808 < m {
-            return signed(true, 9_223_372_036_854_775_808);
+    // The number as an unsigned type with this largest value holds it: the largest where it can't.
+    #[tactic(auto, unfolding(crate::specs::Lines::as_unsigned))]
+    pub fn as_unsigned(self, largest: u64) -> u64
+        ensures { result ≡ as_unsigned largest self.negative self.magnitude }
+    {
+        if self.below_zero() {
+            return largest;
         }
-        signed(true, m)
-    } else {
-        if 9_223_372_036_854_775_807 < m {
-            return signed(false, 9_223_372_036_854_775_807);
-        }
-        signed(false, m)
+        self.magnitude.min(largest)
+    }
+
+    #[tactic(auto, using(crate::proofs::Ranges::unsigned_within))]
+    pub fn as_u8(self) -> u8
+        ensures { result ≡ as_unsigned 255 self.negative self.magnitude }
+    {
+        self.as_unsigned(255) as u8
+    }
+
+    #[tactic(auto, using(crate::proofs::Ranges::unsigned_within))]
+    pub fn as_u16(self) -> u16
+        ensures { result ≡ as_unsigned 65535 self.negative self.magnitude }
+    {
+        self.as_unsigned(65_535) as u16
+    }
+
+    #[tactic(auto, using(crate::proofs::Ranges::unsigned_within))]
+    pub fn as_u32(self) -> u32
+        ensures { result ≡ as_unsigned 4294967295 self.negative self.magnitude }
+    {
+        self.as_unsigned(4_294_967_295) as u32
+    }
+
+    pub fn as_u64(self) -> u64
+        ensures { result ≡ as_unsigned most self.negative self.magnitude }
+    {
+        self.as_unsigned(u64::MAX)
+    }
+
+    // The number as an i64 holds it: the nearer end of its range where it can't.
+    pub fn as_i64(self) -> i64
+        ensures { result ≡ as_signed self.negative self.magnitude }
+    {
+        let most = if self.negative {
+            9_223_372_036_854_775_808
+        } else {
+            9_223_372_036_854_775_807
+        };
+        signed(self.negative, self.magnitude.min(most))
     }
 }

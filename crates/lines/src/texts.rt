@@ -2,22 +2,16 @@
 ghost use Rattle.std.specs.Prelude.{◌≡◌, ◌∷◌, ◌+◌, ◌≤◌, length};
 ghost use Rattle.lines.specs.Texts.{decimal, text_of, put_at, place_behind};
 
-use crate::numbers::below_zero;
+use crate::Number;
 
 // How many decimal digits a number has.
 pub fn places(m: u64) -> usize
     ensures { result ≡ length (decimal 20 m) }
 {
-    let mut count = 1;
-    let mut reach: u64 = 10;
-    while reach <= m {
-        if count == 19 {
-            return 20;
-        }
-        count += 1;
-        reach *= 10;
+    match m.checked_ilog10() {
+        Some(tens) => tens as usize + 1,
+        None => 1,
     }
-    count
 }
 
 // The digits of a number, as many as it has, from a place on where there is room: the last one first.
@@ -25,11 +19,9 @@ fn fill(out: &mut [u8], at: usize, count: usize, m: u64)
     requires { (count ≡ length (decimal 20 m)) × (at + count ≤ length out.old) }
     ensures { out.new ≡ put_at out.old at (decimal 20 m) }
 {
-    let mut i = count;
     let mut rest = m;
-    while 0 < i {
-        i -= 1;
-        out[at + i] = 48 + (rest % 10) as u8;
+    for i in (0..count).rev() {
+        out[at + i] = b'0' + (rest % 10) as u8;
         rest /= 10;
     }
 }
@@ -60,17 +52,23 @@ fn put_negative(out: &mut [u8], at: usize, m: u64) -> usize
     if out.len() - at <= count {
         return at;
     }
-    out[at] = 45;
+    out[at] = b'-';
     fill(out, at + 1, count, m);
     at + 1 + count
 }
 
+// A buffer and a place here, in `put_bytes` and in the crates above: `page` keeps both for whoever puts more than one piece.
 // The number in decimal at a place, a minus before it where it is below 0; the place behind it.
+#[tactic(auto, unfolding(crate::specs::Texts::text_of))]
 pub fn put_number(out: &mut [u8], at: usize, negative: bool, m: u64) -> usize
     ensures out_after { out.new ≡ put_at out.old at (text_of negative m) }
     ensures value { result ≡ place_behind out.old at (text_of negative m) }
 {
-    if below_zero(negative, m) {
+    let number = Number {
+        negative,
+        magnitude: m,
+    };
+    if number.below_zero() {
         put_negative(out, at, m)
     } else {
         put_unsigned(out, at, m)
@@ -88,10 +86,7 @@ pub fn put_bytes(out: &mut [u8], at: usize, bytes: &[u8]) -> usize
     if out.len() - at < bytes.len() {
         return at;
     }
-    let mut i = 0;
-    while i < bytes.len() {
-        out[at + i] = bytes[i];
-        i += 1;
-    }
-    at + bytes.len()
+    let end = at + bytes.len();
+    out[at..end].copy_from_slice(bytes);
+    end
 }

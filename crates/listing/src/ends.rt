@@ -1,148 +1,111 @@
 // A file read from its end: the bytes before a place of it, of which the last are held.
-ghost use Rattle.std.specs.Prelude.{◌+◌, ◌≤◌, length};
+ghost use Rattle.std.specs.Prelude.{◌≡◌, ◌<◌, ◌≤◌, length, Ok, IfOk};
 
 use console::{say, say_failed};
 use statement::{RECORD_WITH_REASON, RECORDS, TRAILER};
+use std::io;
 use std::io::{Read, Seek, SeekFrom};
-use std::num::wrapping_add_u64;
 
 // The longest statement.
 const LONGEST: usize = RECORDS * RECORD_WITH_REASON + TRAILER;
+
+// Reading failed, and why is said.
+#[derive(Clone, Copy)]
+pub struct Unread;
 
 // So many bytes of the file are left, and so many of these, their last, are held at the front of a buffer.
 #[derive(Clone, Copy)]
 pub struct Ending {
     pub left: u64,
     pub held: usize,
-    // reading failed
-    pub failed: bool,
 }
 
-fn failed_ending() -> Ending {
-    Ending {
-        left: 0,
-        held: 0,
-        failed: true,
+// What was read, or was sought; else what failed is said.
+fn said<T>(rt: &impl Eprint, what: &str, answer: io::Result<T>) -> Result<T, Unread>
+    ensures { IfOk result (λ value. answer ≡ Ok value) }
+{
+    match answer {
+        Ok(value) => Ok(value),
+        Err(error) => {
+            say_failed(rt, what, error);
+            Err(Unread)
+        },
     }
 }
 
-// Whether nothing can be read where the file stands, at its end: it is a folder's and a pipe's that can't be told.
-fn is_end(rt: &impl Eprint, file: &mut impl Read) -> bool {
+// Nothing can be read where the file stands, at its end: it is a folder's and a pipe's that can't be told.
+fn check_end(rt: &impl Eprint, file: &mut impl Read) -> Result<(), Unread> {
     let mut byte = [0u8; 1];
-    match file.read(&mut byte) {
-        Ok(0) => true,
-        Ok(_) => {
-            say(rt, b"read: the file has no end\n");
-            false
-        },
-        Err(error) => {
-            say_failed(rt, "read", error);
-            false
-        },
+    let more = said(rt, "read", file.read(&mut byte))?;
+    if more != 0 {
+        say(rt, b"read: the file has no end\n");
+        return Err(Unread);
     }
+    Ok(())
 }
 
-// All of the file is left, and nothing is held.
-pub(crate) fn whole_file(rt: &impl Eprint, file: &mut (impl Read + Seek)) -> Ending {
-    match file.seek(SeekFrom::End(0)) {
-        Ok(left) => if is_end(rt, file) {
-            Ending {
-                left,
-                held: 0,
-                failed: false,
-            }
-        } else {
-            failed_ending()
-        },
-        Err(error) => {
-            say_failed(rt, "seek", error);
-            failed_ending()
-        },
-    }
-}
-
-// One read of the bytes from a place of the file on, into the buffer from a place on up to another; how many they are, and none where it failed.
+// One read of the bytes from a place of the file on; how many they are.
 fn read_part(
     rt: &impl Eprint,
     file: &mut (impl Read + Seek),
-    offset: u64,
-    buffer: &mut [u8],
-    from: usize,
-    to: usize,
-) -> usize
-    requires { (from ≤ to) × (to ≤ length buffer.old) }
-    ensures { from + result ≤ to }
+    place: u64,
+    bytes: &mut [u8],
+) -> Result<usize, Unread>
+    ensures { IfOk result (λ more. (0 < more) × (more ≤ length bytes.old)) }
 {
-    let at = wrapping_add_u64(offset, from as u64);
-    if let Err(error) = file.seek(SeekFrom::Start(at)) {
-        say_failed(rt, "seek", error);
-        return 0;
+    said(rt, "seek", file.seek(SeekFrom::Start(place)))?;
+    let more = said(rt, "read", file.read(bytes))?;
+    if more == 0 {
+        say(rt, b"read: the file has become shorter\n");
+        return Err(Unread);
     }
-    match file.read(&mut buffer[from..to]) {
-        Ok(0) => {
-            say(rt, b"read: the file has become shorter\n");
-            0
-        },
-        Ok(more) => more,
-        Err(error) => {
-            say_failed(rt, "read", error);
-            0
-        },
-    }
+    Ok(more)
 }
 
-// Whether so many bytes of the file from a place on are read to the front of the buffer.
+// Reads the bytes from a place of the file on. A `while`: each read adds as many bytes as it gave.
 fn read_whole(
     rt: &impl Eprint,
     file: &mut (impl Read + Seek),
-    offset: u64,
-    buffer: &mut [u8],
-    count: usize,
-) -> bool
-    requires { count ≤ length buffer.old }
-{
+    place: u64,
+    bytes: &mut [u8],
+) -> Result<(), Unread> {
     let mut done = 0;
-    while done < count {
-        let more = read_part(rt, file, offset, buffer, done, count);
-        if more == 0 {
-            return false;
+    while done < bytes.len() {
+        let from = place.wrapping_add(done as u64);
+        done += read_part(rt, file, from, &mut bytes[done..])?;
+    }
+    Ok(())
+}
+
+impl Ending {
+    // All of the file is left, and nothing is held.
+    pub(crate) fn of(rt: &impl Eprint, file: &mut (impl Read + Seek)) -> Result<Ending, Unread> {
+        let left = said(rt, "seek", file.seek(SeekFrom::End(0)))?;
+        check_end(rt, file)?;
+        Ok(Ending { left, held: 0 })
+    }
+
+    // Holds enough bytes for the longest statement, or all that are left. They are read again only where too few are held.
+    pub(crate) fn hold(
+        &mut self,
+        rt: &impl Eprint,
+        file: &mut (impl Read + Seek),
+        buffer: &mut [u8],
+    ) -> Result<(), Unread> {
+        if LONGEST <= self.held || self.left <= self.held as u64 {
+            return Ok(());
         }
-        done += more;
+        let count = self.left.min(buffer.len() as u64);
+        read_whole(rt, file, self.left - count, &mut buffer[..count as usize])?;
+        self.held = count as usize;
+        Ok(())
     }
-    true
-}
 
-// The lesser of the bytes that are left and the buffer's.
-fn fitting(left: u64, room: usize) -> usize
-    ensures { (result ≤ left) × (result ≤ room) }
-{
-    if left < room as u64 {
-        return left as usize;
-    }
-    room
-}
-
-// With enough bytes held for the longest statement, or all that are left. They are read again only where too few are held.
-pub(crate) fn hold(
-    rt: &impl Eprint,
-    file: &mut (impl Read + Seek),
-    ending: Ending,
-    buffer: &mut [u8],
-) -> Ending {
-    if LONGEST <= ending.held {
-        return ending;
-    }
-    let left = ending.left;
-    if left <= ending.held as u64 {
-        return ending;
-    }
-    let count = fitting(left, buffer.len());
-    if !read_whole(rt, file, left - count as u64, buffer, count) {
-        return failed_ending();
-    }
-    Ending {
-        left,
-        held: count,
-        failed: ending.failed,
+    // Keeps the bytes before a statement that starts at a place among those that are held.
+    pub(crate) fn drop_from(&mut self, first: usize) {
+        self.left = self
+            .left
+            .saturating_sub(self.held.saturating_sub(first) as u64);
+        self.held = first;
     }
 }

@@ -5,15 +5,15 @@ mod ends;
 mod outs;
 mod walks;
 
-use console::{Source, end_with, open_first};
+use console::{end_with, open_first};
 use walks::walk_stream;
 
 fn main(rt: HostRuntime) {
     match open_first(&rt, 2, b"one argument: the file to walk\n") {
-        Source::Nowhere(status) => {
+        Err(status) => {
             end_with(&rt, status);
         },
-        Source::From(stream) => {
+        Ok(stream) => {
             end_with(&rt, walk_stream(&rt, stream));
         },
     }

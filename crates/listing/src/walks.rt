@@ -1,12 +1,12 @@
 // The walk over a file from its end, statement by statement.
-use crate::ends::{Ending, hold, whole_file};
+use crate::ends::{Ending, Unread};
 use crate::outs::{put_other, put_statement};
-use console::{BUFFER, FAILED, Stream, WELL, Waiting, say_failed, write_out};
-use statement::{FoundAny, check_any};
-use std::fs;
-use std::io::{Error, ErrorKind, Read, Result, Seek};
+use console::{BUFFER, FAILED, Output, Stream, WELL, say_failed};
+use statement::check_any;
+use std::io::{Error, ErrorKind, Read, Seek};
 use std::os::unix::fs::FileTypeExt;
 use std::rt::Files;
+use std::{fs, io};
 
 // Some statements at once, so that a file of many small ones is not read many times over.
 const HELD: usize = 262_144;
@@ -14,118 +14,55 @@ const HELD: usize = 262_144;
 // Standard input by its name.
 const STANDARD: &str = "/proc/self/fd/0";
 
-#[derive(Clone, Copy)]
-pub struct Walk {
-    pub ending: Ending,
-    pub waiting: Waiting,
-    pub ended: bool,
-}
-
-// The bytes before a statement that starts at a place among those that are held.
-fn before(ending: Ending, first: usize) -> Ending {
-    if ending.held < first {
-        return ending;
-    }
-    let long = (ending.held - first) as u64;
-    if ending.left < long {
-        return ending;
-    }
-    Ending {
-        left: ending.left - long,
-        held: first,
-        failed: ending.failed,
-    }
-}
-
-// With the statement that the bytes held end in; where they end in none, with what is left.
-fn step(rt: &(impl Print + Eprint), mut walk: Walk, bytes: &[u8], out: &mut [u8]) -> Walk {
-    let ending = walk.ending;
-    let waiting = walk.waiting;
+// Puts the statement that the bytes held end in; where they end in none, what is left, and nothing is left then.
+fn step(rt: &(impl Print + Eprint), ending: &mut Ending, bytes: &[u8], output: &mut Output) {
     match check_any(bytes) {
-        FoundAny::Value(summary) => {
-            walk.waiting = put_statement(rt, bytes, summary, waiting, out);
-            walk.ending = before(ending, summary.first);
+        Ok(found) => {
+            put_statement(rt, bytes, found, output);
+            ending.drop_from(found.summary.first);
         },
-        FoundAny::Refused(_) => {
-            walk.waiting = put_other(rt, ending.left, waiting, out);
-            walk.ended = true;
+        Err(_) => {
+            put_other(rt, ending.left, output);
+            ending.left = 0;
         },
     }
-    walk
 }
 
-fn turn(
+// Statement by statement. Each is shorter than what was left before it; the steps are counted, up to a number that no file has.
+fn walk_all(
     rt: &(impl Print + Eprint),
     file: &mut (impl Read + Seek),
-    mut walk: Walk,
-    buffer: &mut [u8],
-    out: &mut [u8],
-) -> Walk {
-    let ending = walk.ending;
-    let ending = hold(rt, file, ending, buffer);
-    walk.ending = ending;
-    let held = ending.held;
-    if ending.failed {
-        return walk;
-    }
-    if buffer.len() < held {
-        return walk;
-    }
-    step(rt, walk, &buffer[0..held], out)
-}
-
-// Whether there may be another statement.
-fn goes_on(walk: Walk) -> bool {
-    if walk.ended {
-        return false;
-    }
-    if walk.ending.failed {
-        return false;
-    }
-    if walk.waiting.failed {
-        return false;
-    }
-    0 < walk.ending.left
-}
-
-// Statement by statement. Each is shorter than what was left before it; the turns are counted down from a number that no file uses up.
-fn walk_all(rt: &(impl Print + Eprint), file: &mut (impl Read + Seek), out: &mut [u8]) -> Walk {
+    output: &mut Output,
+) -> Result<(), Unread> {
     let mut buffer = [0u8; HELD];
-    let waiting = Waiting {
-        at: 0,
-        failed: false,
-    };
-    let mut walk = Walk {
-        ending: whole_file(rt, file),
-        waiting,
-        ended: false,
-    };
-    let mut turns = u64::MAX;
-    while goes_on(walk) {
-        if turns == 0 {
-            return walk;
+    let mut ending = Ending::of(rt, file)?;
+    for _ in 0..u64::MAX {
+        if output.failed || ending.left == 0 {
+            return Ok(());
         }
-        turns -= 1;
-        walk = turn(rt, file, walk, &mut buffer, out);
+        ending.hold(rt, file, &mut buffer)?;
+        let bytes = buffer.get(..ending.held).unwrap_or(&buffer);
+        step(rt, &mut ending, bytes, output);
     }
-    walk
+    Ok(())
 }
 
 // Prints the statements of the file, and answers the status; what was printed before reading failed stands.
 fn walk_file(rt: &(impl Print + Eprint), mut file: impl Read + Seek + Drop) -> u8 {
-    let mut out = [0u8; BUFFER];
-    let walk = walk_all(rt, &mut file, &mut out);
-    let waiting = walk.waiting;
-    let last = write_out(rt, &out, waiting);
-    if walk.ending.failed {
-        return FAILED;
+    let mut bytes = [0u8; BUFFER];
+    let mut output = Output::new(&mut bytes);
+    let walked = walk_all(rt, &mut file, &mut output);
+    output.write_out(rt);
+    if walked.is_err() || output.failed {
+        FAILED
+    } else {
+        WELL
     }
-    if last.failed { FAILED } else { WELL }
 }
 
 // Standard input once more, as a file that can be read from any place of it. One that can't be read at all is not opened: by its name it could be.
 // Nor is a pipe, which has no places, and whose opening waits for one that writes.
-fn open_again<R: Files>(rt: &R, mut input: impl Read + Drop) -> Result<R::File> {
+fn open_again<R: Files>(rt: &R, mut input: impl Read + Drop) -> io::Result<R::File> {
     input.read(&mut [])?;
     if fs::metadata(rt, STANDARD)?.file_type().is_fifo() {
         return Err(Error::from(ErrorKind::NotSeekable));

@@ -1,7 +1,9 @@
 -- Every promise of the face but that of `mkb_net_for` is an equation: the answer is a term over what C gave, and so is every lent place. Two
 -- answers that a promise allows are equal, and so are the lent places that they leave. Assumes nothing.
+use Rattle.std.specs.Prelude.{Result}
+use Rattle.refusal.specs.Rows.{means}
 use mathlib.Core.Path.{◌≡◌, sym, ◌∙◌, ap}
-use mathlib.Core.Bool.{Bool, true}
+use mathlib.Core.Bool.{Bool}
 use mathlib.Core.List.{List}
 use Prim.Native.Nat.{ℕ}
 use lib.IntN.{ℤ}
@@ -12,11 +14,10 @@ use Rattle.weights.specs.Lent.{out_after}
 use Rattle.sharing.specs.Shared.{shared_said}
 use Rattle.vouchers.specs.Said.{vouchers_said}
 use Rattle.compound.specs.Table.{table_said, list_after}
+use Rattle.statement.specs.declared.Version.TheVariants.{Reasons}
 use Rattle.statement.specs.Files.{file_bytes, file_of}
 use Rattle.statement.specs.Writing.{payout, payout_with, write_said, reasons_said, buffer_after}
 use Rattle.text.specs.Written.{text_of, write_said as textSaid, buffer_after as textAfter}
-use Rattle.tax.specs.declared.Taxed.{Taxed}
-use Rattle.tax.specs.Tax.{means_tax}
 use Rattle.tax.proofs.Unique.{one_net_for_gross}
 use Rattle.flat.specs.declared.MkbAmount.{MkbAmount}
 use Rattle.flat.specs.declared.MkbSplit.{MkbSplit}
@@ -29,13 +30,15 @@ use Rattle.flat.specs.Given.{currency_from, amount_from, book_from, passed8, pas
 use Rattle.flat.specs.Statements.{end_of}
 use Rattle.flat.specs.Answers.{refusal_of, split_of, written_of}
 use Rattle.flat.specs.Books.{ran_of}
+use Rattle.tax.specs.declared.Split.{Split}
+use Rattle.refusal.specs.declared.Refusal.{Refusal}
 use Rattle.morskebab.specs.NetAnswer.{NetAnswer}
 
 -- `mkb_net_for` promises what may be said of the gross, and only one thing may
 pub one_net_for : (gross : MkbAmount) (rate mode : ℤ) (r s : MkbSplit) → NetAnswer gross rate mode r → NetAnswer gross rate mode s → r ≡ s
 one_net_for gross rate mode r s p q =
     let same = one_net_for_gross (amount_from gross) (passed32 rate) (passed8 mode) p.answer q.answer p.said q.said in
-    p.is ∙ (ap (λ (t : Taxed). split_of (means_tax t)) same ∙ sym q.is)
+    p.is ∙ (ap (λ (t : Result Split Refusal). split_of (means t)) same ∙ sym q.is)
 
 -- what `mkb_share` promises of its answer and of the output that it was lent
 abbrev pub Shares : MkbAmount → (weights : List ℕ) (out : List ℤ) (r : ℕ) (left : List ℤ) → Type 0
@@ -79,7 +82,7 @@ one_statement currency places coefficients out start r s left left' p q = (one_a
 abbrev pub WritesReasons : (currency : ℤ) (places reasons : List ℕ) (coefficients : List ℤ) (out : List ℕ) (start : ℤ) (r : MkbEnd) (left : List ℕ) → Type 0
 WritesReasons currency places reasons coefficients out start r left =
     let said = reasons_said (currency_from currency) places reasons coefficients (length out) (passed64 start) in
-    (r ≡ end_of said) × (left ≡ buffer_after said (passed64 start) (file_of true (payout_with (currency_from currency) places reasons coefficients) (length places)) out)
+    (r ≡ end_of said) × (left ≡ buffer_after said (passed64 start) (file_of Reasons (payout_with (currency_from currency) places reasons coefficients) (length places)) out)
 
 pub one_reasons : (currency : ℤ) (places reasons : List ℕ) (coefficients : List ℤ) (out : List ℕ) (start : ℤ) (r s : MkbEnd) (left left' : List ℕ)
     → WritesReasons currency places reasons coefficients out start r left → WritesReasons currency places reasons coefficients out start s left' → (r ≡ s) × (left ≡ left')

@@ -7,24 +7,21 @@ ghost use Rattle.flat.specs.Given.{passed8, passed32, amount_from, date_from};
 ghost use Rattle.flat.specs.Answers.{amount_answer_of, days_of};
 
 use calendar::{date_exists, day_count};
-use flat::{
-    MkbAmount, MkbAmountAnswer, MkbDate, MkbDays, flat_answer, flat_days, given_amount, given_date,
-    pass_u8, pass_u32,
-};
+use flat::{MkbAmount, MkbAmountAnswer, MkbDate, MkbDays, pass_u8, pass_u32};
 use interest::interest;
 
 // Whether the date exists, from 1900 to 2199.
 pub fn mkb_date_exists(date: MkbDate) -> bool
     ensures { result ≡ exists (date_from date).year (date_from date).month (date_from date).day }
 {
-    date_exists(given_date(date))
+    date_exists(date.into())
 }
 
 // The days from the start to the end by the basis: refusals 6, 7, 8.
 pub fn mkb_day_count(basis: i64, start: MkbDate, end: MkbDate) -> MkbDays
     ensures { result ≡ days_of (days_said (passed8 basis) (date_from start) (date_from end)) }
 {
-    flat_days(day_count(pass_u8(basis), given_date(start), given_date(end)))
+    day_count(pass_u8(basis), start.into(), end.into()).into()
 }
 
 // The interest on the principal from the start to the end: refusals 1, 2, 3, 4, 6, 7, 8, 13.
@@ -38,12 +35,13 @@ pub fn mkb_interest(
 ) -> MkbAmountAnswer
     ensures { result ≡ amount_answer_of (interest_said (amount_from principal) (passed32 rate) (passed8 basis) (date_from start) (date_from end) (passed8 mode)) }
 {
-    flat_answer(interest(
-        given_amount(principal),
+    interest(
+        principal.into(),
         pass_u32(rate),
         pass_u8(basis),
-        given_date(start),
-        given_date(end),
+        start.into(),
+        end.into(),
         pass_u8(mode),
-    ))
+    )
+    .into()
 }

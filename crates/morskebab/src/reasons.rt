@@ -1,5 +1,6 @@
 // Statements with reasons, and statements of either version.
-ghost use Rattle.std.specs.Prelude.{true, ◌≡◌, length};
+ghost use Rattle.std.specs.Prelude.{◌≡◌, length};
+ghost use Rattle.statement.specs.declared.Version.TheVariants.{Reasons};
 ghost use Rattle.statement.specs.Files.{file_of};
 ghost use Rattle.statement.specs.Writing.{payout_with, reasons_said, buffer_after};
 ghost use Rattle.statement.specs.Reading.{any_said};
@@ -9,8 +10,7 @@ ghost use Rattle.flat.specs.Statements.{end_of};
 ghost use Rattle.flat.specs.Reasons.{any_statement_of, any_step_of};
 
 use flat::{
-    MkbAnyStatement, MkbAnyStep, MkbEnd, flat_any_statement, flat_any_step, flat_end,
-    given_currency, pass_u16, pass_u64,
+    MkbAnyStatement, MkbAnyStep, MkbEnd, flat_any_step, given_currency, pass_u16, pass_u64,
 };
 use statement::{any_place_after, check_any, write_reasons};
 use view::read_any_at;
@@ -26,7 +26,7 @@ pub fn mkb_write_reasons(
     start: i64,
 ) -> MkbEnd
     ensures said { result ≡ end_of (reasons_said (currency_from currency) places.now reasons.now coefficients.now (length out.old) (passed64 start)) }
-    ensures buffer { out.new ≡ buffer_after (reasons_said (currency_from currency) places.now reasons.now coefficients.now (length out.old) (passed64 start)) (passed64 start) (file_of true (payout_with (currency_from currency) places.now reasons.now coefficients.now) (length places.now)) out.old }
+    ensures buffer { out.new ≡ buffer_after (reasons_said (currency_from currency) places.now reasons.now coefficients.now (length out.old) (passed64 start)) (passed64 start) (file_of Reasons (payout_with (currency_from currency) places.now reasons.now coefficients.now) (length places.now)) out.old }
 {
     let written = write_reasons(
         given_currency(currency),
@@ -36,14 +36,14 @@ pub fn mkb_write_reasons(
         out,
         pass_u64(start) as usize,
     );
-    flat_end(written)
+    written.into()
 }
 
 // The version, the first record's start, the count and the sum of the statement file of either version that the bytes end in, or refusal 14.
 pub fn mkb_check_any(bytes: &[u8]) -> MkbAnyStatement
     ensures { result ≡ any_statement_of (any_said bytes.now) }
 {
-    flat_any_statement(check_any(bytes))
+    check_any(bytes).into()
 }
 
 // The record of a version's statement at a place, or that the view has ended, and the place of what comes next.

@@ -6,26 +6,24 @@ ghost use Rattle.flat.specs.Given.{passed8, currency_from, amount_from};
 ghost use Rattle.flat.specs.Rows.{row_from, row_answer_of, double_of};
 
 use doubles::{export, take_row};
-use flat::{
-    MkbAmount, MkbColumns, MkbDouble, MkbRowAnswer, flat_double, flat_row, given_amount,
-    given_currency, given_row, pass_u8,
-};
+use flat::{MkbAmount, MkbColumns, MkbDouble, MkbRowAnswer, given_currency, pass_u8};
 
 // Both columns as amounts of the currency at the scale, from the exact worth of the doubles, by the mode: refusals 1, 2, 4, 13, 16.
 pub fn mkb_row(row: MkbColumns, currency: i64, scale: i64, mode: i64) -> MkbRowAnswer
     ensures { result ≡ row_answer_of (taken_said (row_from row) (currency_from currency) (passed8 scale) (passed8 mode)) }
 {
-    flat_row(take_row(
-        given_row(row),
+    take_row(
+        row.into(),
         given_currency(currency),
         pass_u8(scale),
         pass_u8(mode),
-    ))
+    )
+    .into()
 }
 
 // The coefficient as a double, divided once by 1, 10, 100 or 1,000: refusals 2, 3, 4.
 pub fn mkb_export(a: MkbAmount) -> MkbDouble
     ensures { result ≡ double_of (export_said (amount_from a)) }
 {
-    flat_double(export(given_amount(a)))
+    export(a.into()).into()
 }

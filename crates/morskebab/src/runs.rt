@@ -5,7 +5,7 @@ ghost use Rattle.flat.specs.Given.{book_from};
 ghost use Rattle.flat.specs.Books.{ran_of};
 
 use bulk::run;
-use flat::{MkbBook, MkbRan, flat_ran, given_book};
+use flat::{MkbBook, MkbRan, flat_ran};
 
 // The movements in turn, a refund of the coefficient where `refunds` has true and else a posting: call j's payouts at the sixteen places from
 // 16 x j on and its number, 0 where it is accepted, at place j; the places past the run stay. The run itself is refused, and then every place
@@ -21,6 +21,6 @@ pub fn mkb_run(
     ensures paid { payouts.new ≡ payouts_after (book_from book) refunds.now coefficients.now payouts.old result.served }
     ensures numbered { numbers.new ≡ numbers_after (book_from book) refunds.now coefficients.now numbers.old result.served }
 {
-    let ran = run(given_book(book), refunds, coefficients, payouts, numbers);
+    let ran = run(book.into(), refunds, coefficients, payouts, numbers);
     flat_ran(book, ran)
 }

@@ -6,7 +6,8 @@ ghost use Rattle.vouchers.specs.Said.{vouchers_said};
 ghost use Rattle.flat.specs.Given.{amount_from, passed32};
 ghost use Rattle.flat.specs.Answers.{refusal_of};
 
-use flat::{MkbAmount, given_amount, pass_u32};
+use flat::{MkbAmount, pass_u32};
+use refusal::number_in;
 use sharing::share;
 use vouchers::vouchers;
 
@@ -16,8 +17,8 @@ pub fn mkb_share(a: MkbAmount, weights: &[u32], out: &mut [i64]) -> u8
     ensures said { result ≡ refusal_of (shared_said (amount_from a) weights.now (length out.old)) }
     ensures places { out.new ≡ out_after (shared_said (amount_from a) weights.now (length out.old)) out.old }
 {
-    let outcome = share(given_amount(a), weights, out);
-    outcome.number()
+    let outcome = share(a.into(), weights, out);
+    number_in(&outcome)
 }
 
 // The vouchers by highest average into the first places of `out`, as many as weights; the others, and every place where the call is refused,
@@ -27,5 +28,5 @@ pub fn mkb_vouchers(count: i64, weights: &[u32], out: &mut [u32]) -> u8
     ensures places { out.new ≡ out_after (vouchers_said (passed32 count) weights.now (length out.old)) out.old }
 {
     let outcome = vouchers(pass_u32(count), weights, out);
-    outcome.number()
+    number_in(&outcome)
 }

@@ -6,7 +6,7 @@ ghost use Rattle.statement.specs.Reading.{read_said};
 ghost use Rattle.flat.specs.Given.{currency_from, passed64};
 ghost use Rattle.flat.specs.Statements.{end_of, statement_of};
 
-use flat::{MkbEnd, MkbStatement, flat_end, flat_statement, given_currency, pass_u64};
+use flat::{MkbEnd, MkbStatement, given_currency, pass_u64};
 use statement::{check, write};
 
 // A record for each payout from the start on and a trailer behind them; the file's end, or the refusal 3, 4, 9 or 11. No other byte of `out`
@@ -28,12 +28,12 @@ pub fn mkb_write_statement(
         out,
         pass_u64(start) as usize,
     );
-    flat_end(written)
+    written.into()
 }
 
 // The first record's start, the count and the sum of the statement file that the bytes end in, or refusal 17 or 14.
 pub fn mkb_check_statement(bytes: &[u8]) -> MkbStatement
     ensures { result ≡ statement_of (read_said bytes.now) }
 {
-    flat_statement(check(bytes))
+    check(bytes).into()
 }

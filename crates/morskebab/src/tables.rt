@@ -6,7 +6,8 @@ ghost use Rattle.flat.specs.Given.{amount_from, passed32};
 ghost use Rattle.flat.specs.Answers.{refusal_of};
 
 use compound::compound;
-use flat::{MkbAmount, given_amount, pass_u32};
+use flat::{MkbAmount, pass_u32};
+use refusal::number_in;
 
 // The principal and the balance after each period into the first places of `out`, one more than periods; the others, and every place where
 // the call is refused, stay as they stood. The answer is 0 or the refusal 2, 3, 4, 6, 10, 11 or 13.
@@ -14,11 +15,6 @@ pub fn mkb_compound(principal: MkbAmount, rate: i64, periods: i64, out: &mut [i6
     ensures said { result ≡ refusal_of (table_said (amount_from principal) (passed32 rate) (passed32 periods) (length out.old)) }
     ensures places { out.new ≡ list_after (magnitude_of principal.coefficient) (passed32 rate) (table_said (amount_from principal) (passed32 rate) (passed32 periods) (length out.old)) out.old }
 {
-    let outcome = compound(
-        given_amount(principal),
-        pass_u32(rate),
-        pass_u32(periods),
-        out,
-    );
-    outcome.number()
+    let outcome = compound(principal.into(), pass_u32(rate), pass_u32(periods), out);
+    number_in(&outcome)
 }

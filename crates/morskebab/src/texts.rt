@@ -6,16 +6,14 @@ ghost use Rattle.text.specs.Codes.{currency_of};
 ghost use Rattle.flat.specs.Given.{currency_from, amount_from};
 ghost use Rattle.flat.specs.Answers.{amount_answer_of, written_of};
 
-use flat::{
-    MkbAmount, MkbAmountAnswer, MkbWritten, flat_answer, flat_written, given_amount, given_currency,
-};
+use flat::{MkbAmount, MkbAmountAnswer, MkbWritten, given_currency};
 use text::{currency_of, read, write};
 
 // The amount that a text of the currency is: refusals 4, 14, 13.
 pub fn mkb_read(currency: i64, text: &[u8]) -> MkbAmountAnswer
     ensures { result ≡ amount_answer_of (read_said (currency_from currency) text.now) }
 {
-    flat_answer(read(given_currency(currency), text))
+    read(given_currency(currency), text).into()
 }
 
 // The amount's text into the first places of `out`, and its length; the others, and every place where the call is refused, stay as they stood:
@@ -24,9 +22,7 @@ pub fn mkb_write(a: MkbAmount, out: &mut [u8]) -> MkbWritten
     ensures said { result ≡ written_of (write_said (amount_from a) (length out.old)) }
     ensures places { out.new ≡ buffer_after (text_of (amount_from a)) (write_said (amount_from a) (length out.old)) out.old }
 {
-    let written = write(given_amount(a), out);
-    let outcome = written.outcome;
-    flat_written(outcome, written.length)
+    write(a.into(), out).into()
 }
 
 // The number of the currency with this code, and 255 where the table has none.

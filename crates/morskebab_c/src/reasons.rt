@@ -1,5 +1,6 @@
 // Statements with reasons, and statements of either version. What each answers is said at the function of its name.
-ghost use Rattle.std.specs.Prelude.{true, ◌≡◌, length};
+ghost use Rattle.std.specs.Prelude.{◌≡◌, length};
+ghost use Rattle.statement.specs.declared.Version.TheVariants.{Reasons};
 ghost use Rattle.statement.specs.Files.{file_of};
 ghost use Rattle.statement.specs.Writing.{payout_with, reasons_said, buffer_after};
 ghost use Rattle.statement.specs.Reading.{any_said};
@@ -20,7 +21,7 @@ pub extern "C" fn mkb_write_reasons(
     start: i64,
 ) -> MkbEnd
     ensures said { result ≡ end_of (reasons_said (currency_from currency) places.now reasons.now coefficients.now (length out.old) (passed64 start)) }
-    ensures buffer { out.new ≡ buffer_after (reasons_said (currency_from currency) places.now reasons.now coefficients.now (length out.old) (passed64 start)) (passed64 start) (file_of true (payout_with (currency_from currency) places.now reasons.now coefficients.now) (length places.now)) out.old }
+    ensures buffer { out.new ≡ buffer_after (reasons_said (currency_from currency) places.now reasons.now coefficients.now (length out.old) (passed64 start)) (passed64 start) (file_of Reasons (payout_with (currency_from currency) places.now reasons.now coefficients.now) (length places.now)) out.old }
 {
     morskebab::mkb_write_reasons(currency, places, reasons, coefficients, out, start)
 }

@@ -1,10 +1,10 @@
 -- The programs' paper, docs/DESK.md, "`rerun`": what a line of a quarter's file asks for. Cited by `asked_of`. Assumes nothing.
-use Rattle.std.specs.Prelude.{Bool, true, false, cond, ◌||◌, List, [], ◌∷◌, ℕ, ltb, leb, eqb, replicate}
+use Rattle.std.specs.Prelude.{Option, Some, None, Bool, true, false, cond, ◌||◌, List, [], ◌∷◌, ℕ, ltb, leb, eqb, replicate}
 use Rattle.amount.specs.declared.Amount.{Amount}
-use Rattle.intake.specs.declared.Given.{Given}
-use Rattle.intake.specs.declared.Given.TheVariants.{Numbers, Others}
 use Rattle.intake.specs.Numbers.{unsigned_at, amount_at}
-use Rattle.intake.specs.Words.{asks_nothing, next_word, given_of, signs_of, magnitudes_of}
+use Rattle.intake.specs.Words.{asks_nothing, next_word, given_of, numbers_of}
+use Rattle.lines.specs.Lines.{nought}
+use Rattle.lines.specs.declared.Number.{Number}
 use Rattle.spoken.specs.declared.Form.{Form}
 use Rattle.spoken.specs.declared.Kind.TheVariants.{Plain, Unit, Money}
 use Rattle.spoken.specs.Hearing.{bytes_of}
@@ -49,14 +49,15 @@ unknown_of Refund = Unknown
 unknown_of Other = Unknown
 
 -- "A text that is refused counts as refused with its number"
-abbrev pub call_of : (refund : Bool) → Amount → (refused reason : ℕ) → Asked
-call_of refund amount refused reason = cond (ltb 0 refused) (Refused refused) (Call refund amount reason)
+abbrev pub call_of : (refund : Bool) → Amount → (refused : Option ℕ) (reason : ℕ) → Asked
+call_of refund amount (Some number) reason = Refused number
+call_of refund amount None reason = Call (record { refund = refund; amount = amount; reason = reason })
 
 -- "a reason code from 0 to 99 ..; any other number or word there is a line that is not understood"
-abbrev pub refund_of : Amount → (refused reason : ℕ) → Asked
+abbrev pub refund_of : Amount → (refused : Option ℕ) (reason : ℕ) → Asked
 refund_of amount refused reason = cond (ltb 99 reason) Unknown (call_of true amount refused reason)
 
-abbrev pub called_of : First → Amount → (refused reason : ℕ) → Asked
+abbrev pub called_of : First → Amount → (refused : Option ℕ) (reason : ℕ) → Asked
 called_of Open amount refused reason = Opening
 called_of Card amount refused reason = NewCard
 called_of Post amount refused reason = call_of false amount refused 0
@@ -64,34 +65,29 @@ called_of Refund amount refused reason = refund_of amount refused reason
 called_of Other amount refused reason = Unknown
 
 -- "A line that is not understood (an unknown word, a missing or superfluous number, a word that is no number ..)"
-unfoldable pub called_with : First → (count : ℕ) → Amount → (refused reason : ℕ) → Asked
+unfoldable pub called_with : First → (count : ℕ) → Amount → (refused : Option ℕ) (reason : ℕ) → Asked
 called_with first count amount refused reason =
     cond (takes_of first count) (called_of first amount refused reason) (unknown_of first)
 
-unfoldable pub spoken_as : First → Given → Amount → (refused reason : ℕ) → Asked
-spoken_as first (Numbers count) amount refused reason = called_with first count amount refused reason
-spoken_as first Others amount refused reason = unknown_of first
+unfoldable pub spoken_as : First → (given : Option ℕ) → Amount → (refused : Option ℕ) (reason : ℕ) → Asked
+spoken_as first (Some count) amount refused reason = called_with first count amount refused reason
+spoken_as first None amount refused reason = unknown_of first
 
 -- the places of the three numbers of an amount and of a reason, 0 where there is none, before a line is read
-abbrev pub no_signs : List Bool
-no_signs = replicate 4 false
-
-abbrev pub no_values : List ℕ
-no_values = replicate 4 0
+abbrev pub no_numbers : List Number
+no_numbers = replicate 4 nought
 
 -- the words behind the first, of which one is a code or a text, or not understood
 unfoldable pub in_words : List ℕ → (from : ℕ) → First → Asked
 in_words line from first =
-    let r = read_of line from (form_of first) no_signs no_values in
-    spoken_as first (spoken_of r.heard).given (amount_at r.signs r.magnitudes 0) (spoken_of r.heard).refused
-    (unsigned_at 65535 r.signs r.magnitudes 3)
+    let r = read_of line from (form_of first) no_numbers in
+    spoken_as first (spoken_of r.heard).given (amount_at r.numbers 0) (spoken_of r.heard).refused (unsigned_at 65535 r.numbers 3)
 
 -- the words behind the first: numbers alone, or others among them
-abbrev pub by_given : Given → List ℕ → (from : ℕ) → First → Asked
-by_given (Numbers count) line from first =
-    called_with first count (amount_at (signs_of line from no_signs) (magnitudes_of line from no_values) 0) 0
-    (unsigned_at 65535 (signs_of line from no_signs) (magnitudes_of line from no_values) 3)
-by_given Others line from first = in_words line from first
+abbrev pub by_given : (given : Option ℕ) → List ℕ → (from : ℕ) → First → Asked
+by_given (Some count) line from first =
+    called_with first count (amount_at (numbers_of line from no_numbers) 0) None (unsigned_at 65535 (numbers_of line from no_numbers) 3)
+by_given None line from first = in_words line from first
 
 unfoldable pub behind_first : List ℕ → (from : ℕ) → First → Asked
 behind_first line from first = by_given (given_of line from) line from first

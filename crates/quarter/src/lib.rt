@@ -5,6 +5,7 @@ use amount::Amount;
 use book::Book;
 use console::Feed;
 use intake::Lead;
+use refusal::Refusal;
 
 mod asking;
 mod books;
@@ -20,6 +21,14 @@ pub enum First {
     Other,
 }
 
+// A posting or a refund of an amount, with the code of a reason.
+#[derive(Clone, Copy)]
+pub struct Call {
+    pub refund: bool,
+    pub amount: Amount,
+    pub reason: u16,
+}
+
 // What a line asks for.
 #[derive(Clone, Copy)]
 pub enum Asked {
@@ -33,9 +42,8 @@ pub enum Asked {
     Card,
     // an `open` or a `card` that is not understood
     Astray,
-    // a posting, or a refund where that is true, of an amount, with the code of a reason
-    Call(bool, Amount, u16),
-    // a posting or a refund whose amount is a text that is refused with a number
+    Call(Call),
+    // a posting or a refund whose amount is a text that is refused with a number: `read_words` tells no more of the refusal
     Refused(u8),
 }
 
@@ -48,7 +56,7 @@ pub enum Next {
 }
 
 // What was met; where reading stands then; what is known of the first word of a line that is too long to hold; and where a line stands among the bytes
-// that are held, and whether it has no newline.
+// that are held, and whether it has no newline. By value, as `reading_of`, the promise of `read_line`, says it.
 #[derive(Clone, Copy)]
 pub struct Reading {
     pub feed: Feed,
@@ -59,12 +67,12 @@ pub struct Reading {
     pub next: Next,
 }
 
-// How a book was opened: not at all, by an `open` that is not understood, with a refusal's number, or as asked.
+// How a book was opened: not at all, by an `open` that is not understood, with a refusal, or as asked.
 #[derive(Clone, Copy)]
 pub enum Opening {
     Nothing,
     Unknown,
-    Refused(u8),
+    Refused(Refusal),
     Accepted,
 }
 

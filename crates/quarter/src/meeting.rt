@@ -22,11 +22,11 @@ fn asked_by_long(lead: Lead) -> Asked
 fn met_at(feed: Feed, cut: Cut, lead: Lead, next: Next) -> Reading
     ensures { result ≡ met_at feed cut lead next }
 {
-    let mut behind = feed;
-    let intake = cut.next;
-    behind.intake = intake;
     Reading {
-        feed: behind,
+        feed: Feed {
+            intake: cut.next,
+            ..feed
+        },
         lead,
         start: cut.start,
         end: cut.end,
@@ -36,29 +36,26 @@ fn met_at(feed: Feed, cut: Cut, lead: Lead, next: Next) -> Reading
 }
 
 // What the bytes held begin with. Bytes of a line that is too long are looked at before they are dropped.
+#[tactic(auto, unfolding(crate::specs::Meeting::reading_of))]
 pub fn read_line(text: &[u8], feed: Feed, lead: Lead) -> Reading
     ensures said { result ≡ reading_of text.now feed lead }
     ensures inside { (result.start ≤ result.end) × (result.end ≤ length text.now) }
 {
     let cut = next_cut(text, feed);
-    let start = cut.start;
-    let end = cut.end;
-    let found = cut.found;
-    match found {
-        Found::Line => met_at(
-            feed,
-            cut,
-            Lead::Spaces,
-            Next::Line(asked_of(&text[start..end])),
-        ),
+    let bytes = &text[cut.start..cut.end];
+    match cut.found {
+        Found::Line => met_at(feed, cut, Lead::Spaces, Next::Line(asked_of(bytes))),
         Found::Long => {
-            let known = lead_of(lead, &text[start..end]);
-            met_at(feed, cut, Lead::Spaces, Next::Line(asked_by_long(known)))
+            let asked = asked_by_long(lead_of(lead, bytes));
+            met_at(feed, cut, Lead::Spaces, Next::Line(asked))
         },
-        Found::More => if cut.next.skipping {
-            met_at(feed, cut, lead_of(lead, &text[start..end]), Next::More)
-        } else {
-            met_at(feed, cut, lead, Next::More)
+        Found::More => {
+            let known = if cut.next.skipping {
+                lead_of(lead, bytes)
+            } else {
+                lead
+            };
+            met_at(feed, cut, known, Next::More)
         },
         Found::Nothing => met_at(feed, cut, lead, Next::End),
     }

@@ -1,8 +1,6 @@
 -- Document 01, "Refusal numbers": the table's number for each refusal, and the date that it blames.
 -- Cited by `Refusal::number` and `Refusal::blamed`, and by every promise through `refuses`. Assumes nothing.
-use Rattle.std.specs.Prelude.{ℕ}
-use Rattle.refusal.specs.declared.Checked.{Checked}
-use Rattle.refusal.specs.declared.Checked.TheVariants.{Passed, Refused}
+use Rattle.std.specs.Prelude.{ℕ, Result, Ok, Err}
 use Rattle.refusal.specs.declared.Blamed.{Blamed}
 use Rattle.refusal.specs.declared.Blamed.TheVariants.{First, Second}
 use Rattle.refusal.specs.declared.Refusal.{Refusal}
@@ -52,11 +50,11 @@ blamed_of NoNet = 0
 blamed_of NoNumber = 0
 blamed_of Newer = 0
 
--- a check's answer by its number and the date that it blames: both 0 where the check passes
-abbrev pub number_in : Checked → ℕ
-number_in Passed = 0
-number_in (Refused r) = number_of r
+-- an answer by its refusal's number and the date that it blames: both 0 where it is a value
+abbrev pub number_in : {A : Type 0} → Result A Refusal → ℕ
+number_in (Ok value) = 0
+number_in (Err r) = number_of r
 
-abbrev pub blamed_in : Checked → ℕ
-blamed_in Passed = 0
-blamed_in (Refused r) = blamed_of r
+abbrev pub blamed_in : {A : Type 0} → Result A Refusal → ℕ
+blamed_in (Ok value) = 0
+blamed_in (Err r) = blamed_of r

@@ -1,10 +1,8 @@
 -- Document 01, "Refusal numbers": what a call says, and the rows of a call.
 -- Cited by the promises of every call. Assumes nothing.
-use Rattle.std.specs.Prelude.{◌≡◌, Bool, true, false, ◌&&◌, List, [], ◌∷◌, ℕ, leb, ltb}
+use Rattle.std.specs.Prelude.{◌≡◌, Bool, true, false, ◌&&◌, List, [], ◌∷◌, ℕ, leb, ltb, Result, Ok, Err, ⊤}
 use Rattle.refusal.specs.declared.Refusal.{Refusal}
 use Rattle.refusal.specs.declared.Refusal.TheVariants.{Rate}
-use Rattle.refusal.specs.declared.Checked.{Checked}
-use Rattle.refusal.specs.declared.Checked.TheVariants.{Passed, Refused}
 use Rattle.refusal.specs.Number.{number_of, blamed_of}
 use Rattle.refusal.specs.Rank.{rank_of}
 
@@ -30,15 +28,20 @@ first_row (row r true ∷ rows) value = refuses (number_of r) (blamed_of r)
 first_row (row r false ∷ rows) value = first_row rows value
 
 -- the same as a check's answer
-abbrev pub check_of : List Row → Checked
-check_of [] = Passed
-check_of (row r true ∷ rows) = Refused r
+abbrev pub check_of : List Row → Result ⊤ Refusal
+check_of [] = Ok tt
+check_of (row r true ∷ rows) = Err r
 check_of (row r false ∷ rows) = check_of rows
 
--- what an outcome says, beside the value that the call gives where it is accepted
-abbrev pub means_outcome : {A : Type 0} → Checked → A → Said A
-means_outcome Passed value = gives value
-means_outcome (Refused r) value = refuses (number_of r) (blamed_of r)
+-- what an answer says
+abbrev pub means : {A : Type 0} → Result A Refusal → Said A
+means (Ok value) = gives value
+means (Err r) = refuses (number_of r) (blamed_of r)
+
+-- what a check says, beside the value that the call gives where it passes
+abbrev pub means_outcome : {A : Type 0} → Result ⊤ Refusal → A → Said A
+means_outcome (Ok passed) value = gives value
+means_outcome (Err r) value = refuses (number_of r) (blamed_of r)
 
 -- row 6 at a rate: "a rate is outside its limits", which are 0 and this one
 abbrev pub rate_rows : (most rate : ℕ) → List Row

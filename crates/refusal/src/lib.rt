@@ -1,4 +1,4 @@
-// The refusals of document 01's table, and the answer of a check.
+// The refusals of document 01's table.
 #![tactic(auto)]
 
 ghost use Rattle.std.specs.Prelude.{◌≡◌};
@@ -6,14 +6,14 @@ ghost use Rattle.refusal.specs.Number.{place_of, number_of, blamed_of, number_in
 ghost use Rattle.refusal.specs.Rows.{check_of, rate_rows};
 
 // Which of a call's two dates a refusal blames.
-#[derive(Clone, Copy)]
+#[derive(Clone, Copy, Debug, PartialEq, Eq)]
 pub enum Blamed {
     First,
     Second,
 }
 
 // One case for each row of the table, and for those that document 02 adds, by number.
-#[derive(Clone, Copy)]
+#[derive(Clone, Copy, Debug, PartialEq, Eq)]
 pub enum Refusal {
     // 1: the mode isn't 0 to 6
     Mode,
@@ -49,13 +49,6 @@ pub enum Refusal {
     NoNumber,
     // 17: a statement is of a newer version than its reader
     Newer,
-}
-
-// The answer of a check: nothing to refuse, or the first row that holds.
-#[derive(Clone, Copy)]
-pub enum Checked {
-    Passed,
-    Refused(Refusal),
 }
 
 impl Blamed {
@@ -104,56 +97,39 @@ impl Refusal {
         ensures { result ≡ blamed_of self }
     {
         match self {
-            Refusal::Date(d) => d.place(),
-            Refusal::Mode => 0,
-            Refusal::Scale => 0,
-            Refusal::Magnitude => 0,
-            Refusal::Unknown => 0,
-            Refusal::Differ => 0,
-            Refusal::Rate => 0,
-            Refusal::Days => 0,
-            Refusal::Weights => 0,
-            Refusal::Negative => 0,
-            Refusal::Room => 0,
-            Refusal::Refund => 0,
-            Refusal::Limit => 0,
-            Refusal::Malformed => 0,
-            Refusal::NoNet => 0,
-            Refusal::NoNumber => 0,
-            Refusal::Newer => 0,
+            Refusal::Date(date) => date.place(),
+            _ => 0,
         }
     }
 }
 
-impl Checked {
-    // The number of the row that holds, and 0 where none does.
-    pub fn number(self) -> u8
-        ensures { result ≡ number_in self }
-    {
-        match self {
-            Checked::Passed => 0,
-            Checked::Refused(refusal) => refusal.number(),
-        }
+// The number of the refusal in an answer, and 0 where it is a value.
+pub fn number_in<T>(answer: &Result<T, Refusal>) -> u8
+    ensures { result ≡ number_in answer.now }
+{
+    match answer {
+        Ok(_) => 0,
+        Err(refusal) => refusal.number(),
     }
+}
 
-    // The date that is blamed: 1 the first, 2 the second, 0 where no date is.
-    pub fn blamed(self) -> u8
-        ensures { result ≡ blamed_in self }
-    {
-        match self {
-            Checked::Passed => 0,
-            Checked::Refused(refusal) => refusal.blamed(),
-        }
+// The date that is blamed in an answer: 1 the first, 2 the second, 0 where no date is.
+pub fn blamed_in<T>(answer: &Result<T, Refusal>) -> u8
+    ensures { result ≡ blamed_in answer.now }
+{
+    match answer {
+        Ok(_) => 0,
+        Err(refusal) => refusal.blamed(),
     }
 }
 
 // Row 6 at a rate, or at another number that has a limit.
-pub fn check_rate(rate: u32, most: u32) -> Checked
+pub fn check_rate(rate: u32, most: u32) -> Result<(), Refusal>
     ensures { result ≡ check_of (rate_rows most rate) }
 {
     if most < rate {
-        Checked::Refused(Refusal::Rate)
+        Err(Refusal::Rate)
     } else {
-        Checked::Passed
+        Ok(())
     }
 }

@@ -1,12 +1,13 @@
 // The current book with what is counted of it on its card, and what its cards before come to.
-ghost use Rattle.std.specs.Prelude.{◌≤◌};
-
-use crate::cards::{Cards, no_cards};
-use crate::tally::{Tally, count_call, count_calls, no_calls};
+use crate::cards::{Cards, NO_CARDS};
+use crate::partners::{Partner, partners_of};
+use crate::tally::{Answered, NOTHING, Tally};
 use amount::Amount;
 use book::{Book, Moved};
-use bulk::run;
-use quarter::{Opening, begin, no_book};
+use currency::{Line, line_of};
+use quarter::{Opening, begin, card_of, no_book};
+use refusal::{Refusal, number_in};
+use whole::magnitude;
 
 #[derive(Clone, Copy)]
 pub struct Account {
@@ -18,97 +19,6 @@ pub struct Account {
     pub cards: Cards,
 }
 
-// The book whose every field is 0, before any opening and after one that is not understood.
-pub(crate) fn no_account(opening: Opening) -> Account {
-    Account {
-        opening,
-        book: no_book(),
-        coded: false,
-        tally: no_calls(),
-        cards: no_cards(),
-    }
-}
-
-// The opening that a line asks for.
-pub(crate) fn open(line: &[u8]) -> Account {
-    let begun = begin(line);
-    let opening = begun.opening;
-    let book = begun.book;
-    Account {
-        opening,
-        book,
-        coded: begun.coded,
-        tally: no_calls(),
-        cards: no_cards(),
-    }
-}
-
-// The lesser of two counts: no more calls are counted than there are.
-fn least(a: usize, b: usize) -> usize
-    ensures { (result ≤ a) × (result ≤ b) }
-{
-    if a < b { a } else { b }
-}
-
-// With so many calls that wait served, for which the lists have places.
-pub(crate) fn run_calls(
-    account: Account,
-    count: usize,
-    refunds: &[bool],
-    coefficients: &[i64],
-    lines: &[u64],
-    payouts: &mut [u64],
-    numbers: &mut [u8],
-) -> Account {
-    if count == 0 {
-        return account;
-    }
-    if refunds.len() < count {
-        return account;
-    }
-    if coefficients.len() < count {
-        return account;
-    }
-    if lines.len() < count {
-        return account;
-    }
-    if numbers.len() < count {
-        return account;
-    }
-    if payouts.len() / Book::PARTNERS < count {
-        return account;
-    }
-    let opening = account.opening;
-    let book = account.book;
-    let tally = account.tally;
-    let cards = account.cards;
-    let ran = run(
-        book,
-        &refunds[0..count],
-        &coefficients[0..count],
-        payouts,
-        numbers,
-    );
-    let book = ran.book;
-    let served = least(ran.served, count);
-    let tally = count_calls(
-        tally,
-        served,
-        refunds,
-        coefficients,
-        lines,
-        payouts,
-        numbers,
-    );
-    Account {
-        opening,
-        book,
-        coded: account.coded,
-        tally,
-        cards,
-    }
-}
-
 fn move_by(book: Book, refund: bool, amount: Amount) -> Moved {
     if refund {
         book.refund(amount)
@@ -117,40 +27,75 @@ fn move_by(book: Book, refund: bool, amount: Amount) -> Moved {
     }
 }
 
-// With one call served. An amount that is not in the book's currency at its own digits is refused at any net total, so that such a call
-// may go before those that wait.
-pub(crate) fn call_now(account: Account, refund: bool, amount: Amount, line: u64) -> Account {
-    let opening = account.opening;
-    let book = account.book;
-    let tally = account.tally;
-    let cards = account.cards;
-    let moved = move_by(book, refund, amount);
-    let book = moved.book;
-    let payouts = moved.payouts;
-    let outcome = moved.outcome;
-    let number = outcome.number();
-    let tally = count_call(tally, refund, amount.coefficient, line, payouts, number);
-    Account {
-        opening,
-        book,
-        coded: account.coded,
-        tally,
-        cards,
+impl Account {
+    // The book whose every field is 0, before any opening and after one that is not understood.
+    pub fn none(opening: Opening) -> Account {
+        Account {
+            opening,
+            book: no_book(),
+            coded: false,
+            tally: NOTHING,
+            cards: NO_CARDS,
+        }
     }
-}
 
-// With one call counted whose amount is a text that is refused with a number: it moves nothing.
-pub(crate) fn refuse_now(account: Account, number: u8, line: u64) -> Account {
-    let opening = account.opening;
-    let book = account.book;
-    let tally = account.tally;
-    let cards = account.cards;
-    let tally = count_call(tally, false, 0, line, [0; Book::PARTNERS], number);
-    Account {
-        opening,
-        book,
-        coded: account.coded,
-        tally,
-        cards,
+    // The opening that a line asks for.
+    pub fn open(line: &[u8]) -> Account {
+        let begun = begin(line);
+        Account {
+            opening: begun.opening,
+            book: begun.book,
+            coded: begun.coded,
+            tally: NOTHING,
+            cards: NO_CARDS,
+        }
+    }
+
+    // Whether the book was opened as asked.
+    pub fn is_open(&self) -> bool {
+        matches!(self.opening, Opening::Accepted)
+    }
+
+    // Whether there is nothing to report: before any opening that is so where no line is counted.
+    pub fn is_silent(&self) -> bool {
+        matches!(self.opening, Opening::Nothing) && self.tally.is_empty()
+    }
+
+    // Its currency's line where it was opened by the code: then that is put, and its sums as texts at the currency's digits. Else all are numbers.
+    pub fn style(&self) -> Option<Line> {
+        if self.coded {
+            Some(line_of(self.book.currency))
+        } else {
+            None
+        }
+    }
+
+    // Serves and counts one call. An amount that is not in the book's currency at its own digits is refused at any net total, so that such a
+    // call may go before those that wait.
+    pub fn call(&mut self, refund: bool, amount: Amount, line: u64) {
+        let moved = move_by(self.book, refund, amount);
+        self.book = moved.book;
+        let call = Answered {
+            refund,
+            coefficient: amount.coefficient,
+            number: number_in(&moved.outcome),
+            line,
+        };
+        self.tally.count_call(call, &moved.payouts);
+    }
+
+    // The book on the new card that a line asks for.
+    pub fn next_card(&self, line: &[u8]) -> Result<Book, Refusal> {
+        let moved = card_of(self.book, line);
+        moved.outcome?;
+        Ok(moved.book)
+    }
+
+    // Goes on with the book on a new card, on which nothing is counted yet.
+    pub fn turn_card(&mut self, book: Book) {
+        let partners = partners_of(self);
+        self.cards.add(magnitude(self.book.net), &partners);
+        self.book = book;
+        self.tally = NOTHING;
     }
 }

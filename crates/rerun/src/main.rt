@@ -2,6 +2,7 @@
 #![tactic(auto)]
 
 mod accounts;
+mod calls;
 mod cards;
 mod checks;
 mod gathering;
@@ -12,18 +13,18 @@ mod tally;
 mod together;
 mod turns;
 
-use console::{FAILED, Source, end_with, open_source};
+use console::{FAILED, end_with, open_source};
 use turns::run_file;
 
 fn main(rt: HostRuntime) {
     match open_source(&rt) {
-        Source::Nowhere(status) => {
+        Err(status) => {
             if status == FAILED {
                 let _ = println!(rt; "end FAILED after 0 lines");
             }
             end_with(&rt, status);
         },
-        Source::From(stream) => {
+        Ok(stream) => {
             end_with(&rt, run_file(&rt, stream));
         },
     }

@@ -1,125 +1,127 @@
 // The partners of a report.
-ghost use Rattle.std.specs.Prelude.{◌^◌, ◌<◌, ◌≤◌};
+ghost use Rattle.std.specs.Prelude.{◌^◌, ◌≤◌};
 
 use crate::accounts::Account;
-use crate::styles::{Style, put_units, style_of};
+use crate::styles::put_units;
 use amount::Amount;
 use book::Book;
-use console::put_named;
-use lines::put_bytes;
-use std::num::wrapping_add_u64;
+use currency::Line;
+use page::Page;
 use whole::magnitude;
+
+// N x weight / W rounded down and up.
+#[derive(Clone, Copy)]
+pub struct Share {
+    pub least: u64,
+    pub most: u64,
+}
+
+pub(crate) const NO_SHARE: Share = Share { least: 0, most: 0 };
 
 // A partner's numbers.
 #[derive(Clone, Copy)]
 pub struct Partner {
-    // how its units are put
-    pub style: Style,
     pub weight: u64,
     pub paid: u64,
     pub taken: u64,
     pub total: u64,
-    // N x weight / W rounded down and up
-    pub least: u64,
-    pub most: u64,
+    pub share: Share,
 }
 
 // N x weight; a book has no greater ones than these, and their product fits.
 fn product(n: u64, weight: u64) -> u64
     ensures { result ≤ 10 ^ 19 }
 {
-    if Amount::L < n {
-        return 0;
-    }
-    if Book::WEIGHT_SUM < weight {
+    if Amount::L < n || Book::WEIGHT_SUM < weight {
         return 0;
     }
     n * weight
 }
 
-fn round_down(n: u64, d: u64) -> u64 {
-    if d == 0 {
-        return 0;
+impl Share {
+    // A quotient rounded down and up, and noughts for a divisor of 0.
+    fn of(n: u64, d: u64) -> Share
+        requires { n ≤ 10 ^ 19 }
+    {
+        if d == 0 {
+            return NO_SHARE;
+        }
+        Share {
+            least: n / d,
+            most: n.div_ceil(d),
+        }
     }
-    n / d
+
+    pub fn add(&mut self, other: Share) {
+        self.least = self.least.wrapping_add(other.least);
+        self.most = self.most.wrapping_add(other.most);
+    }
+
+    // Whether a sum is between the two.
+    pub fn holds(self, sum: u64) -> bool {
+        self.least <= sum && sum <= self.most
+    }
+
+    pub fn put(self, page: &mut Page, style: Option<Line>) {
+        put_units(page, b" least ", style, self.least);
+        put_units(page, b" most ", style, self.most);
+        page.put(b"\n");
+    }
 }
 
-fn round_up(n: u64, d: u64) -> u64
-    requires { n ≤ 10 ^ 19 }
-{
-    if d == 0 {
-        return 0;
+impl Partner {
+    // Paid less taken is the total, which is between its shares.
+    pub fn holds(&self) -> bool {
+        self.taken.wrapping_add(self.total) == self.paid && self.share.holds(self.total)
     }
-    if n % d == 0 {
-        return n / d;
+
+    fn put(&self, page: &mut Page, place: usize, style: Option<Line>) {
+        page.put_named(b"partner ", place as u64);
+        page.put_named(b" weight ", self.weight);
+        put_units(page, b" paid ", style, self.paid);
+        put_units(page, b" taken ", style, self.taken);
+        put_units(page, b" total ", style, self.total);
+        self.share.put(page, style);
     }
-    n / d + 1
 }
 
 // W, the sum of the weights.
-fn weight_sum(weights: [u32; Book::PARTNERS]) -> u64 {
-    let mut sum = 0;
-    let mut i = 0;
-    while i < Book::PARTNERS {
-        sum = wrapping_add_u64(sum, weights[i] as u64);
-        i += 1;
-    }
-    sum
+fn weight_sum(weights: &[u32; Book::PARTNERS]) -> u64 {
+    weights
+        .iter()
+        .fold(0u64, |sum, weight| sum.wrapping_add(u64::from(*weight)))
 }
 
-pub(crate) fn partner_of(account: Account, totals: [u64; Book::PARTNERS], place: usize) -> Partner
-    requires { place < 16 }
-{
-    let weights = account.book.weights;
-    let currency = account.book.currency;
-    let payouts = account.tally.payouts;
-    let weight = weights[place] as u64;
-    let sum = weight_sum(weights);
-    let n = product(magnitude(account.book.net), weight);
-    Partner {
-        style: style_of(account.coded, currency),
-        weight,
-        paid: payouts[place],
-        taken: payouts[Book::PARTNERS + place],
-        total: totals[place],
-        least: round_down(n, sum),
-        most: round_up(n, sum),
-    }
-}
-
-fn put_total(out: &mut [u8], at: usize, partner: Partner) -> usize {
-    let style = partner.style;
-    let behind = put_units(out, at, b" total ", style, partner.total);
-    let behind = put_units(out, behind, b" least ", style, partner.least);
-    let behind = put_units(out, behind, b" most ", style, partner.most);
-    put_bytes(out, behind, b"\n")
-}
-
-fn put_partner(out: &mut [u8], at: usize, place: usize, partner: Partner) -> usize {
-    let behind = put_named(out, at, b"partner ", place as u64);
-    let behind = put_named(out, behind, b" weight ", partner.weight);
-    let style = partner.style;
-    let behind = put_units(out, behind, b" paid ", style, partner.paid);
-    let behind = put_units(out, behind, b" taken ", style, partner.taken);
-    put_total(out, behind, partner)
-}
-
-// A line for each of the count's partners.
-pub(crate) fn put_partners(
-    out: &mut [u8],
-    at: usize,
-    account: Account,
-    totals: [u64; Book::PARTNERS],
-) -> usize {
-    let count = account.book.count as usize;
-    let mut behind = at;
-    let mut i = 0;
-    while i < Book::PARTNERS {
-        if count <= i {
-            return behind;
+// All partners of an account, on its present card; a book whose totals are refused has totals of 0.
+pub(crate) fn partners_of(account: &Account) -> [Partner; Book::PARTNERS] {
+    let book = account.book;
+    let totals = book.totals().unwrap_or([0; Book::PARTNERS]);
+    let n = magnitude(book.net);
+    let sum = weight_sum(&book.weights);
+    std::array::from_fn(|place| {
+        let weight = u64::from(book.weights[place]);
+        Partner {
+            weight,
+            paid: account.tally.posted.payouts[place],
+            taken: account.tally.refunded.payouts[place],
+            total: totals[place],
+            share: Share::of(product(n, weight), sum),
         }
-        behind = put_partner(out, behind, i, partner_of(account, totals, i));
-        i += 1;
+    })
+}
+
+// A line for each of the book's partners.
+pub(crate) fn put_partners(
+    page: &mut Page,
+    account: &Account,
+    partners: &[Partner; Book::PARTNERS],
+) {
+    let style = account.style();
+    for (place, partner) in partners
+        .iter()
+        .enumerate()
+        .take(usize::from(account.book.count))
+    {
+        partner.put(page, place, style);
     }
-    behind
 }

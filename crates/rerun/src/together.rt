@@ -1,137 +1,56 @@
 // What a book's cards come to, at its end where it has more than one.
 use crate::accounts::Account;
-use crate::cards::{Cards, all_cards};
-use crate::checks::{Check, last_of};
-use crate::reports::{Report, is_accepted, put_check};
-use crate::styles::{Style, put_units, style_of};
-use crate::tally::sum_from;
+use crate::checks::checked;
+use crate::partners::{Partner, Share};
+use crate::styles::put_units;
 use book::Book;
-use console::put_named;
-use lines::put_bytes;
-use std::num::wrapping_add_u64;
+use currency::Line;
+use page::Page;
 use whole::magnitude;
 
-// Each partner's settled and running totals together.
-fn sums_of(settled: [i64; Book::PARTNERS], totals: [u64; Book::PARTNERS]) -> [u64; Book::PARTNERS] {
-    let mut sums = totals;
-    let mut i = 0;
-    while i < Book::PARTNERS {
-        sums[i] = wrapping_add_u64(sums[i], magnitude(settled[i]));
-        i += 1;
-    }
-    sums
+// A partner's settled and running totals together, and its shares added over the cards.
+#[derive(Clone, Copy)]
+struct Together {
+    sum: u64,
+    share: Share,
 }
 
-fn put_one(out: &mut [u8], at: usize, style: Style, place: usize, count: u64, sum: u64) -> usize {
-    let behind = put_named(out, at, b"settled ", place as u64);
-    let behind = put_named(out, behind, b" cards ", count);
-    put_units(out, behind, b" together ", style, sum)
-}
-
-fn put_shares(out: &mut [u8], at: usize, style: Style, least: u64, most: u64) -> usize {
-    let behind = put_units(out, at, b" least ", style, least);
-    let behind = put_units(out, behind, b" most ", style, most);
-    put_bytes(out, behind, b"\n")
-}
-
-// A line for each of the count's partners.
-fn put_sums(
-    out: &mut [u8],
-    at: usize,
-    style: Style,
-    cards: Cards,
-    sums: [u64; Book::PARTNERS],
-    count: usize,
-) -> usize {
-    let least = cards.least;
-    let most = cards.most;
-    let mut behind = at;
-    let mut i = 0;
-    while i < Book::PARTNERS {
-        if count <= i {
-            return behind;
-        }
-        behind = put_one(out, behind, style, i, cards.count, sums[i]);
-        behind = put_shares(out, behind, style, least[i], most[i]);
-        i += 1;
-    }
-    behind
-}
-
-// The first place whose sum is not between its shares: past the last where none is.
-fn first_outside(cards: Cards, sums: [u64; Book::PARTNERS]) -> usize {
-    let least = cards.least;
-    let most = cards.most;
-    let mut i = 0;
-    while i < Book::PARTNERS {
-        if sums[i] < least[i] {
-            return i;
-        }
-        if most[i] < sums[i] {
-            return i;
-        }
-        i += 1;
-    }
-    Book::PARTNERS
-}
-
-// Where the sums alone don't add to all cards' net totals, the last partner is named.
-fn check_sums(cards: Cards, sums: [u64; Book::PARTNERS], count: u8) -> Check {
-    let net = cards.net;
-    let outside = first_outside(cards, sums);
-    if outside < Book::PARTNERS {
-        return Check::Failed(outside as u64);
-    }
-    if sum_from(&sums, 0) != net {
-        return Check::Failed(last_of(count));
-    }
-    Check::Well
-}
-
-fn partners_of(count: u8) -> usize {
-    count as usize
-}
-
-fn put_cards(out: &mut [u8], put: Report, account: Account) -> Report {
-    let running = account.book.totals();
-    let totals = running.totals;
-    let settled = account.book.settled;
-    let count = account.book.count;
-    let currency = account.book.currency;
-    let style = style_of(account.coded, currency);
-    let sums = sums_of(settled, totals);
-    let behind = put_sums(
-        out,
-        put.at,
-        style,
-        all_cards(account, totals),
-        sums,
-        partners_of(count),
-    );
-    let check = check_sums(all_cards(account, totals), sums, count);
-    let failed = if let Check::Well = check {
-        put.failed
-    } else {
-        true
-    };
-    Report {
-        at: put_check(out, behind, check),
-        failed,
-        blemished: put.blemished,
+impl Together {
+    fn put(&self, page: &mut Page, place: usize, cards: u64, style: Option<Line>) {
+        page.put_named(b"settled ", place as u64);
+        page.put_named(b" cards ", cards);
+        put_units(page, b" together ", style, self.sum);
+        self.share.put(page, style);
     }
 }
 
-// With these lines behind the report on the last card of a book that ends.
-pub(crate) fn put_together(out: &mut [u8], put: Report, account: Account, ends: bool) -> Report {
-    let opening = account.opening;
-    if !ends {
-        return put;
+// Where nothing fails for a partner, the sums add to all cards' net totals.
+fn check_sums(all: &[Together; Book::PARTNERS], net: u64, count: u8) -> Result<(), u64> {
+    let sum = all
+        .iter()
+        .fold(0u64, |sum, partner| sum.wrapping_add(partner.sum));
+    let failing = all
+        .iter()
+        .position(|partner| !partner.share.holds(partner.sum));
+    checked(failing, sum == net, count)
+}
+
+// A line for each of the book's partners, and the check to be put behind them.
+pub(crate) fn put_together(
+    page: &mut Page,
+    account: &Account,
+    partners: &[Partner; Book::PARTNERS],
+) -> Result<(), u64> {
+    let book = account.book;
+    let style = account.style();
+    let mut cards = account.cards;
+    cards.add(magnitude(book.net), partners);
+    let all = std::array::from_fn(|place| Together {
+        sum: magnitude(book.settled[place]).wrapping_add(partners[place].total),
+        share: cards.shares[place],
+    });
+    for (place, partner) in all.iter().enumerate().take(usize::from(book.count)) {
+        partner.put(page, place, cards.count, style);
     }
-    if account.cards.count == 0 {
-        return put;
-    }
-    if !is_accepted(opening) {
-        return put;
-    }
-    put_cards(out, put, account)
+    check_sums(&all, cards.net, book.count)
 }

@@ -1,5 +1,6 @@
 -- The quotient that is found, the leaf's capped one where the second factor isn't 1, serves the rows as the rounded quotient itself does: within the limits it is over 10^18 where that is, and it is the
 -- same where no row holds; outside them a row in front holds. Assumes nothing.
+use Rattle.std.specs.Prelude.{Ok}
 use mathlib.Core.Path.{◌≡◌, refl, sym, ◌∙◌, ap}
 use mathlib.Core.Bool.{Bool, true, false}
 use mathlib.Core.List.{[], ◌∷◌}
@@ -10,7 +11,6 @@ use native.Mathlib.Omega.{arith}
 use borrow.Author.Tests.{lt-ltb, ltb-false, eq-eqb, ne_eqb}
 use lib.Dec.{ltb}
 use lib.IntN.{ℤ}
-use Rattle.refusal.specs.declared.Checked.TheVariants.{Passed}
 use Rattle.refusal.specs.declared.Refusal.TheVariants.{Magnitude, Rate, Limit}
 use Rattle.refusal.specs.Rows.{Said, row, check_of, first_row}
 use Rattle.refusal.proofs.Check.{clear}
@@ -52,7 +52,7 @@ pub record Limited (a b d quotient : ℕ) : Type 0 where
   pub divisor : d ≤ limit
   pub within : quotient ≤ limit
 
-pub limited : (a b d q : ℕ) → check_of (plain_rows a b d q) ≡ Passed → Limited a b d q
+pub limited : (a b d q : ℕ) → check_of (plain_rows a b d q) ≡ Ok tt → Limited a b d q
 unfolding plain_rows
 limited a b d q e =
     let rows = clear (plain_rows a b d q) e in
@@ -103,7 +103,7 @@ module _ (rule : Rule) (sign : Bool) (a b d : ℕ) where
       (ltb limit (rounded_magnitude rule sign (a * b) d)) value
       (λ one two some most. over_alike (ltb-false limit a one) (ltb-false limit b two) (ltb-false d 1 some) (ltb-false limit d most))
 
-  pub same_quotient : check_of (plain_rows a b d (found_quotient rule sign a b d)) ≡ Passed → found_quotient rule sign a b d ≡ rounded_magnitude rule sign (a * b) d
+  pub same_quotient : check_of (plain_rows a b d (found_quotient rule sign a b d)) ≡ Ok tt → found_quotient rule sign a b d ≡ rounded_magnitude rule sign (a * b) d
   same_quotient passed = go (ℕ_discrete b 1)
     where
       go : Dec (b ≡ 1) → found_quotient rule sign a b d ≡ rounded_magnitude rule sign (a * b) d
@@ -114,7 +114,7 @@ module _ (rule : Rule) (sign : Bool) (a b d : ℕ) where
           capped_so ∙ uncapped (rounded_magnitude rule sign (a * b) d) (omega (arith, l.within, capped_so))
 
   -- what the rows let pass, an i64 holds
-  pub held_quotient : check_of (plain_rows a b d (found_quotient rule sign a b d)) ≡ Passed
+  pub held_quotient : check_of (plain_rows a b d (found_quotient rule sign a b d)) ≡ Ok tt
       → held_signed sign (found_quotient rule sign a b d) ≡ signed_of sign (rounded_magnitude rule sign (a * b) d)
   held_quotient passed =
       let l = limited a b d (found_quotient rule sign a b d) passed in

@@ -1,13 +1,12 @@
 -- Document 01, "Seven modes": the mode numbers, and each rule as one line: does the magnitude rise by one?
--- Cited by `rule_of`, `rises` and every promise that rounds. Assumes nothing.
-use Rattle.std.specs.Prelude.{Bool, true, false, not, cond, ◌&&◌, List, [], ◌∷◌, ℕ, ltb, get_or}
+-- Cited by `Rule`, made of a mode number, by `rises` and every promise that rounds. Assumes nothing.
+use Rattle.std.specs.Prelude.{Bool, true, false, not, cond, ◌&&◌, List, [], ◌∷◌, ℕ, ltb, get_or, Result, Ok, Err}
 use Rattle.refusal.specs.declared.Refusal.TheVariants.{Mode}
 use Rattle.rounding.specs.declared.Rule.{Rule}
 use Rattle.rounding.specs.declared.Rule.TheVariants.{Up, Down, Ceiling, Floor, HalfUp, HalfDown, HalfEven}
 use Rattle.rounding.specs.declared.Rest.{Rest}
+use Rattle.refusal.specs.declared.Refusal.{Refusal}
 use Rattle.rounding.specs.declared.Rest.TheVariants.{Exact, Below, Half, Above}
-use Rattle.rounding.specs.declared.Choice.{Choice}
-use Rattle.rounding.specs.declared.Choice.TheVariants.{Chosen, Refused}
 
 -- "Mode numbers: 0 UP (away from zero), 1 DOWN (toward zero), 2 CEILING, 3 FLOOR, 4 HALF_UP, 5 HALF_DOWN, 6 HALF_EVEN"
 abbrev pub rules : List Rule
@@ -20,9 +19,9 @@ rule_of mode = get_or rules mode HalfEven
 unfoldable pub bad_mode : ℕ → Bool
 bad_mode mode = ltb 6 mode
 
-unfoldable pub choice_of : ℕ → Choice
+unfoldable pub choice_of : ℕ → Result Rule Refusal
 unfolding rule_of bad_mode
-choice_of mode = cond (bad_mode mode) (Refused Mode) (Chosen (rule_of mode))
+choice_of mode = cond (bad_mode mode) (Err Mode) (Ok (rule_of mode))
 
 -- what is left of a division, against the half of its divisor: something, at least the half, more than the half
 abbrev pub some_rest : Rest → Bool

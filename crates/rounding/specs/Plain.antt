@@ -2,19 +2,11 @@
 -- from 1 to 10^18". Document 01, "Refusal numbers", rows 1, 3, 6 and 13 at a plain quotient, and its value. Cited by `plain_quotient`.
 -- Assumes nothing.
 use Rattle.std.specs.Prelude.{List, [], ◌∷◌, ℕ, ◌^◌, ltb, ℤ, ◌*ℤ◌}
-use Rattle.refusal.specs.Number.{number_of, blamed_of}
-use Rattle.refusal.specs.Rows.{Said, gives, refuses, Row, row, first_row}
+use Rattle.refusal.specs.Rows.{Said, gives, Row, row, first_row}
 use Rattle.refusal.specs.declared.Refusal.TheVariants.{Mode, Magnitude, Rate, Limit}
 use Rattle.whole.specs.Whole.{magnitude_of}
-use Rattle.rounding.specs.declared.Quotient.{Quotient}
-use Rattle.rounding.specs.declared.Quotient.TheVariants.{Value, Refused}
 use Rattle.rounding.specs.Modes.{bad_mode, rule_of}
 use Rattle.rounding.specs.Leaf.{rounded}
-
--- what each case of the answer says
-abbrev pub means_quotient : Quotient → Said ℤ
-means_quotient (Value n) = gives n
-means_quotient (Refused r) = refuses (number_of r) (blamed_of r)
 
 abbrev pub limit : ℕ
 limit = 10 ^ 18

@@ -21,6 +21,7 @@ pub(crate) fn class(rest: u64, d: u64) -> Rest
     }
 }
 
+// No Option: 0 where d is 0 is the promise `rounded_magnitude`.
 // The magnitude of n / d under a rule, for a number of the given sign; 0 where d is 0. One division: the rest is taken from the quotient by
 // a product and a difference.
 pub fn round(rule: Rule, negative: bool, n: u64, d: u64) -> u64

@@ -36,21 +36,7 @@ pub enum Rest {
     Above,
 }
 
-// The rule that a mode number chooses.
-#[derive(Clone, Copy)]
-pub enum Choice {
-    Chosen(Rule),
-    Refused(Refusal),
-}
-
-// The answer of the plain quotient.
-#[derive(Clone, Copy)]
-pub enum Quotient {
-    Value(i64),
-    Refused(Refusal),
-}
-
 pub use leaf::round;
-pub use modes::{rises, rule_of};
+pub use modes::rises;
 pub use plain::plain_quotient;
 pub use product::{round_half_up, round_product};

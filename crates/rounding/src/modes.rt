@@ -3,22 +3,27 @@ ghost use Rattle.std.specs.Prelude.{◌≡◌};
 ghost use Rattle.rounding.specs.Modes.{choice_of, rises_by};
 ghost use Rattle.rounding.specs.Answers.{number_of, answers_of};
 
-use crate::{Choice, Rest, Rule};
+use crate::{Rest, Rule};
 use refusal::Refusal;
 
 // The rule of a mode number, and refusal 1 for every other number.
-pub fn rule_of(mode: u8) -> Choice
-    ensures { result ≡ choice_of mode }
-{
-    match mode {
-        0 => Choice::Chosen(Rule::Up),
-        1 => Choice::Chosen(Rule::Down),
-        2 => Choice::Chosen(Rule::Ceiling),
-        3 => Choice::Chosen(Rule::Floor),
-        4 => Choice::Chosen(Rule::HalfUp),
-        5 => Choice::Chosen(Rule::HalfDown),
-        6 => Choice::Chosen(Rule::HalfEven),
-        _ => Choice::Refused(Refusal::Mode),
+impl TryFrom<u8> for Rule {
+    type Error = Refusal;
+
+    ghost try_from_gives = { λ mode rule. rule ≡ choice_of mode };
+
+    #[tactic(auto, unfolding(crate::specs::Modes::choice_of, crate::specs::Modes::rule_of, crate::specs::Modes::bad_mode))]
+    fn try_from(mode: u8) -> Result<Rule, Refusal> {
+        match mode {
+            0 => Ok(Rule::Up),
+            1 => Ok(Rule::Down),
+            2 => Ok(Rule::Ceiling),
+            3 => Ok(Rule::Floor),
+            4 => Ok(Rule::HalfUp),
+            5 => Ok(Rule::HalfDown),
+            6 => Ok(Rule::HalfEven),
+            _ => Err(Refusal::Mode),
+        }
     }
 }
 

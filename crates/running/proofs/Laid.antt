@@ -48,7 +48,10 @@ pub record Laid (weight sum u first full : ℕ) (slots : List ℕ) (m q r : ℕ)
   pub divided : Divided (m * sum) weight q r
   pub laid : held ≡ fill_by weight sum u first slots (m - first)
 
-module _ (weight sum u first full : ℕ) (slots : List ℕ) (asked : Laying weight sum u first full slots) where
+pub length_laid : {weight sum u first full m q r : ℕ} {slots held : List ℕ} → Laid weight sum u first full slots m q r held → length held ≡ length slots
+length_laid {weight} {sum} {u} {first} {full} {m} {q} {r} {slots} {held} l = ap length l.laid ∙ length_fill weight sum u first slots (m - first)
+
+module _ {weight sum u first full : ℕ} {slots : List ℕ} (asked : Laying weight sum u first full slots) where
   pub laid_start : Laid weight sum u first full slots first (first * sum / weight) (first * sum % weight) slots
   unfolding fill_by
   laid_start = record { from = omega arith; upto = asked.units; divided = divide (first * sum) weight asked.weighs; laid = rw sub_self }
@@ -66,7 +69,7 @@ module _ (weight sum u first full : ℕ) (slots : List ℕ) (asked : Laying weig
   quotient_within : (m q r : ℕ) → m ≤ full → Divided (m * sum) weight q r → q ≤ 100000000
   quotient_within m q r h d = omega (arith, d.whole, products, mul-le-mul_right sum h, mul-le-mul_left q asked.weighs)
 
-  module _ (m q r : ℕ) (held : List ℕ) (l : Laid weight sum u first full slots m q r held) (more : m < full) where
+  module _ {m q r : ℕ} {held : List ℕ} (l : Laid weight sum u first full slots m q r held) (more : m < full) where
     -- the unit's slot is one of the window's
     pub slot_after : u ≤ q
     slot_after =
@@ -80,9 +83,6 @@ module _ (weight sum u first full : ℕ) (slots : List ℕ) (asked : Laying weig
         let h : q * weight < (u + length slots) * weight =
         omega (arith, asked.fits, d.whole, asked.some, mul-le-mul_right {m = suc m} sum more) in
         omega (arith, lt_of_mul-lt-mul_right weight h, slot_after, ap length l.laid, length_fill weight sum u first slots (m - first))
-
-    pub slot_small : q ≤ 100000000
-    slot_small = quotient_within m q r l.upto l.divided
 
     -- and has room
     pub slot_room : get_or held (q - u) 0 < weight_sum
@@ -122,5 +122,5 @@ module _ (weight sum u first full : ℕ) (slots : List ℕ) (asked : Laying weig
     carried_within h =
         quotient_within (m + 1) (q + (sum / weight + 1)) (r - (weight - sum % weight)) (omega arith) (carried_unit h).divided
 
-  pub laid_end : (m q r : ℕ) (held : List ℕ) → Laid weight sum u first full slots m q r held → full ≤ m → held ≡ fill_by weight sum u first slots (full - first)
-  laid_end m q r held l h = let e : m ≡ full = omega (arith, l.upto) in l.laid ∙ ap (λ (k : ℕ). fill_by weight sum u first slots (k - first)) e
+  pub laid_end : {m q r : ℕ} {held : List ℕ} → Laid weight sum u first full slots m q r held → full ≤ m → held ≡ fill_by weight sum u first slots (full - first)
+  laid_end {m} {q} {r} {held} l h = let e : m ≡ full = omega (arith, l.upto) in l.laid ∙ ap (λ (k : ℕ). fill_by weight sum u first slots (k - first)) e

@@ -1,30 +1,17 @@
--- What the functions behind the running totals ask and say of their lists. Cited by src/running.rt, src/full.rt and src/window.rt.
+-- What the functions behind the running totals ask and say of their lists. Cited by src/full.rt and src/window.rt.
 -- Assumes nothing.
 use Rattle.std.specs.Prelude.{◌≡◌, List, ℕ, zero, suc, ◌+◌, ◌-◌, ◌*◌, ◌/◌, ◌≤◌, ◌<◌, length, get_or, replicate}
 use Rattle.whole.specs.Sums.{sum_of}
-use Rattle.units.specs.Rule.{due}
-use Rattle.units.specs.Window.{places_sum, lo, full_by, mass, ahead_after}
+use Rattle.units.specs.Rule.{due, totals}
+use Rattle.units.specs.Window.{full_by, mass, ahead_after}
 use Rattle.units.specs.Calendar.{bump, calendar}
 use Rattle.running.specs.Limits.{partners, weight_sum}
 
--- sixteen weights with sum W, and n units of a cycle, with each place's full units: its share of n rounded down
-pub record Shares (ws : List ℕ) (sum n : ℕ) (full : List ℕ) : Type 0 where
-  pub same : sum ≡ sum_of ws
-  pub some : 1 ≤ sum
-  pub most : sum ≤ weight_sum
-  pub part : n ≤ weight_sum
-  pub shares : (i : ℕ) → i < partners → get_or full i 0 ≡ lo ws n i
-
 -- the numbers of a sum over the places stay small
-pub record Small (ws : List ℕ) (sum : ℕ) (full : List ℕ) (t : ℕ) : Type 0 where
+pub record Small (ws : List ℕ) (sum : ℕ) (full : List ℕ) : Type 0 where
   pub weigh : (i : ℕ) → i < partners → get_or ws i 0 ≤ weight_sum
   pub most : sum ≤ weight_sum
   pub units : (i : ℕ) → i < partners → get_or full i 0 ≤ weight_sum
-  pub early : t ≤ weight_sum
-
--- the mass at unit t, by the full units
-abbrev pub mass_by : (ws : List ℕ) (sum : ℕ) (full : List ℕ) (t : ℕ) → ℕ
-mass_by ws sum full t = places_sum (λ i. t * get_or ws i 0 - get_or full i 0 * sum) partners
 
 -- a window may start after unit u: nobody is ahead then
 pub record Starts (ws : List ℕ) (n u : ℕ) : Type 0 where
@@ -64,3 +51,7 @@ pub record Empty (n u : ℕ) (slots : List ℕ) : Type 0 where
 -- who is ahead at n, 1 or 0 at each place, by the units from u on
 abbrev pub Ahead : (ws : List ℕ) (n u : ℕ) (ahead : List ℕ) → Type 0
 Ahead ws n u ahead = ahead ≡ ahead_after (full_by ws n) ws n u (n - u)
+
+-- who is ahead has one more than its full units, the others have those
+abbrev pub OneMore : (ws : List ℕ) (n : ℕ) (full ahead : List ℕ) → Type 0
+OneMore ws n full ahead = (i : ℕ) → i < partners → get_or (totals ws n) i 0 ≡ get_or full i 0 + get_or ahead i 0

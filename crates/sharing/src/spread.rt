@@ -25,15 +25,13 @@ fn divide(m: u64, weights: &[u32], shares: &mut [u64], rests: &mut [u64]) -> u64
     let whole = m / total;
     let part = m % total;
     let mut left = m;
-    let mut i = 0;
-    while i < weights.len() {
-        let weight = weights[i] as u64;
+    for (i, weight) in weights.iter().enumerate() {
+        let weight = u64::from(*weight);
         let product = part * weight;
         let share = whole * weight + product / total;
         shares[i] = share;
         rests[i] = product % total;
         left -= share;
-        i += 1;
     }
     left
 }
@@ -46,13 +44,11 @@ fn largest_place(rests: &[u64]) -> usize
 {
     let mut place = 0;
     let mut top = rests[0];
-    let mut i = 1;
-    while i < rests.len() {
+    for i in 1..rests.len() {
         if top < rests[i] {
             top = rests[i];
             place = i;
         }
-        i += 1;
     }
     place
 }
@@ -77,10 +73,8 @@ fn hand_out(units: u64, shares: &mut [u64], rests: &mut [u64])
     requires units_bound { sum_of shares.old + units < 2 ^ 64 }
     ensures { shares.exit.now ≡ (hand_out units (record { shares = shares.entry.now; unserved = rests.old })).shares }
 {
-    let mut given = 0;
-    while given < units {
+    for _given in 0..units {
         serve_one(shares, rests);
-        given += 1;
     }
 }
 
@@ -90,10 +84,8 @@ fn write(negative: bool, shares: &[u64], out: &mut [i64])
     requires out_len { length out.old ≡ length shares.now }
     ensures { out.new ≡ map (signed_of negative) shares.now }
 {
-    let mut i = 0;
-    while i < shares.len() {
-        out[i] = signed(negative, shares[i]);
-        i += 1;
+    for (i, share) in shares.iter().enumerate() {
+        out[i] = signed(negative, *share);
     }
 }
 
@@ -118,34 +110,15 @@ fn spread_by(
     write(negative, shares, out);
 }
 
-// With room for the shares and the remainders of few weights: a short list does not wait until 64 places are cleared.
-fn spread_few(negative: bool, m: u64, weights: &[u32], out: &mut [i64])
+// With room for the shares and the remainders of at most so many weights: a short list does not wait until 64 places are cleared.
+fn spread_in<const ROOM: usize>(negative: bool, m: u64, weights: &[u32], out: &mut [i64])
     requires m_bound { m < 2 ^ 63 }
-    requires weights_len_bound { length weights.now ≤ 8 }
+    requires weights_len_bound { (length weights.now ≤ ROOM) × (ROOM ≤ 64) }
     requires allowed { Allowed weights.now (length out.old) }
     ensures { out.new ≡ map (signed_of negative) (shares_of m weights.now) ++ drop (length weights.now) out.old }
 {
-    let mut shares: [u64; FEW] = [0; FEW];
-    let mut rests: [u64; FEW] = [0; FEW];
-    let count = weights.len();
-    spread_by(
-        negative,
-        m,
-        weights,
-        &mut shares[..count],
-        &mut rests[..count],
-        &mut out[..count],
-    );
-}
-
-// With room for those of as many as a list has.
-fn spread_many(negative: bool, m: u64, weights: &[u32], out: &mut [i64])
-    requires m_bound { m < 2 ^ 63 }
-    requires allowed { Allowed weights.now (length out.old) }
-    ensures { out.new ≡ map (signed_of negative) (shares_of m weights.now) ++ drop (length weights.now) out.old }
-{
-    let mut shares: [u64; MOST_WEIGHTS] = [0; MOST_WEIGHTS];
-    let mut rests: [u64; MOST_WEIGHTS] = [0; MOST_WEIGHTS];
+    let mut shares: [u64; ROOM] = [0; ROOM];
+    let mut rests: [u64; ROOM] = [0; ROOM];
     let count = weights.len();
     spread_by(
         negative,
@@ -164,8 +137,8 @@ pub(crate) fn spread(negative: bool, m: u64, weights: &[u32], out: &mut [i64])
     ensures { out.new ≡ map (signed_of negative) (shares_of m weights.now) ++ drop (length weights.now) out.old }
 {
     if weights.len() <= FEW {
-        spread_few(negative, m, weights, out);
+        spread_in::<FEW>(negative, m, weights, out);
     } else {
-        spread_many(negative, m, weights, out);
+        spread_in::<MOST_WEIGHTS>(negative, m, weights, out);
     }
 }

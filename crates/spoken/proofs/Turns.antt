@@ -1,27 +1,22 @@
 -- Words heard one after another: where there is no word more, what was read stays, however many turns are taken; so it is the line's. Assumes nothing.
 use mathlib.Core.Path.{◌≡◌, refl, ◌∙◌, ap}
-use mathlib.Core.Bool.{Bool, true, false}
 use mathlib.Core.List.{List}
 use Prim.Native.Nat.{ℕ, zero, suc, ◌+◌, ◌-◌, ◌≤◌, ◌<◌}
 use native.Mathlib.Numerals.{add-one}
 use native.Mathlib.Omega.{arith}
 use borrow.Author.Tests.{lt-ltb, le-ltb}
-use lib.ListN.{length, set, length-set}
+use lib.ListN.{length}
 use Rattle.lines.specs.Lines.{word_from}
 use Rattle.lines.specs.declared.Word.{Word}
 use Rattle.lines.proofs.FirstWord.{start_from, end_within}
+use Rattle.lines.specs.declared.Number.{Number}
 use Rattle.intake.proofs.Words.{no_word}
 use Rattle.spoken.specs.declared.Form.{Form}
 use Rattle.spoken.specs.declared.Heard.{Heard}
 use Rattle.spoken.specs.declared.Step.{Step}
 use Rattle.spoken.specs.declared.Spoken.{Spoken}
-use Rattle.spoken.specs.Hearing.{more, step_of}
-use Rattle.spoken.specs.Reading.{put_one, put_signs, put_magnitudes, Read, silence, turn_of, turns, read_of, spoken_of}
-
--- a list keeps its length
-length_put : {A : Type 0} (two : Bool) (front last : A) (place : ℕ) (xs : List A) → length (put_one two front last place xs) ≡ length xs
-length_put true front last place xs = length-set (set xs place front) (more place 1) last ∙ length-set xs place front
-length_put false front last place xs = length-set xs place last
+use Rattle.spoken.specs.Hearing.{step_of}
+use Rattle.spoken.specs.Reading.{put_numbers, Read, silence, turn_of, turns, read_of, spoken_of}
 
 module _ (line : List ℕ) (form : Form) where
   stays
@@ -36,25 +31,23 @@ module _ (line : List ℕ) (form : Form) where
   unfolding turn_of
   no_turn r h = rw (le-ltb (word_from line r.at).start (word_from line r.at).end h)
 
-  module _ (from : ℕ) (signs₀ : List Bool) (values₀ : List ℕ) where
+  module _ (from : ℕ) (numbers₀ : List Number) where
     abbrev first : Read
-    first = record { at = from; heard = silence; signs = signs₀; magnitudes = values₀ }
+    first = record { at = from; heard = silence; numbers = numbers₀ }
 
     -- so many words are heard, and reading stands at a place
-    pub record Stands (signs : List Bool) (values : List ℕ) (at : ℕ) (heard : Heard) : Type 0 where
+    pub record Stands (numbers : List Number) (at : ℕ) (heard : Heard) : Type 0 where
       pub words : ℕ
-      pub is : turns line form first words ≡ record { at = at; heard = heard; signs = signs; magnitudes = values }
+      pub is : turns line form first words ≡ record { at = at; heard = heard; numbers = numbers }
       pub few : words ≤ length line
       pub before : words ≤ at
-      pub signs_sized : length signs ≡ length signs₀
-      pub values_sized : length values ≡ length values₀
 
-    pub none_heard : (heard : Heard) → heard ≡ silence → Stands signs₀ values₀ from heard
+    pub none_heard : (heard : Heard) → heard ≡ silence → Stands numbers₀ from heard
     unfolding turns
     none_heard heard e =
-        record { words = 0; is = rw e refl; few = omega arith; before = omega arith; signs_sized = refl; values_sized = refl }
+        record { words = 0; is = rw e refl; few = omega arith; before = omega arith }
 
-    module _ (signs : List Bool) (values : List ℕ) (at : ℕ) (heard : Heard) (s : Stands signs values at heard) where
+    module _ (numbers : List Number) (at : ℕ) (heard : Heard) (s : Stands numbers at heard) where
       -- the word ends behind where reading stands, and within the line
       pub word_places
           : (word : Word) → word ≡ word_from line at → at < length line → word.start < word.end
@@ -66,17 +59,16 @@ module _ (line : List ℕ) (form : Form) where
 
       abbrev Ended : Spoken → Type 0
       Ended spoken =
-          (spoken ≡ spoken_of (read_of line from form signs₀ values₀).heard)
-          × ((signs ≡ (read_of line from form signs₀ values₀).signs) × (values ≡ (read_of line from form signs₀ values₀).magnitudes))
+          (spoken ≡ spoken_of (read_of line from form numbers₀).heard) × (numbers ≡ (read_of line from form numbers₀).numbers)
 
       ended : (spoken : Spoken) → spoken ≡ spoken_of heard → (word_from line at).end ≤ (word_from line at).start → Ended spoken
       ended spoken e h =
           let z : length line ≡ s.words + (length line - s.words) = omega (arith, s.few) in
           let still : turn_of line form (turns line form first s.words) ≡ turns line form first s.words =
-          rw s.is (no_turn (record { at = at; heard = heard; signs = signs; magnitudes = values }) h) in
-          let all : read_of line from form signs₀ values₀ ≡ record { at = at; heard = heard; signs = signs; magnitudes = values } =
+          rw s.is (no_turn (record { at = at; heard = heard; numbers = numbers }) h) in
+          let all : read_of line from form numbers₀ ≡ record { at = at; heard = heard; numbers = numbers } =
           ap (turns line form first) z ∙ stays first s.words still (length line - s.words) ∙ s.is in
-          (rw all e, (rw all refl, rw all refl))
+          (rw all e, rw all refl)
 
       pub empty_word
           : (spoken : Spoken) → spoken ≡ spoken_of heard → (word : Word) → word ≡ word_from line at → word.end ≤ word.start → Ended spoken
@@ -87,18 +79,15 @@ module _ (line : List ℕ) (form : Form) where
 
       -- one word more
       pub one_heard
-          : (word : Word) (step : Step) (signs' : List Bool) (values' : List ℕ) → word ≡ word_from line at → at < length line → word.start < word.end
-          → step ≡ step_of line word form heard → signs' ≡ put_signs step heard.count signs → values' ≡ put_magnitudes step heard.count values
-          → Stands signs' values' word.end step.next
+          : (word : Word) (step : Step) (numbers' : List Number) → word ≡ word_from line at → at < length line → word.start < word.end
+          → step ≡ step_of line word form heard → numbers' ≡ put_numbers step heard.count numbers → Stands numbers' word.end step.next
       unfolding turns turn_of
-      one_heard word step signs' values' w l h is-step is-signs is-values =
+      one_heard word step numbers' w l h is-step are =
           let places = word_places word w l h in
           let steps : step ≡ step_of line (word_from line at) form heard = is-step ∙ ap (λ (word : Word). step_of line word form heard) w in
           record {
             words = s.words + 1;
-            is = rw (add-one s.words, s.is, lt-ltb (word_from line at).start (word_from line at).end (rw w at h), ← steps, w, is-signs, is-values) refl;
+            is = rw (add-one s.words, s.is, lt-ltb (word_from line at).start (word_from line at).end (rw w at h), ← steps, w, are) refl;
             few = omega (arith, s.before, places);
             before = omega (arith, s.before, places);
-            signs_sized = ap length is-signs ∙ length_put step.two false step.negative heard.count signs ∙ s.signs_sized;
-            values_sized = ap length is-values ∙ length_put step.two step.front step.last heard.count values ∙ s.values_sized;
           }

@@ -2,7 +2,7 @@
 #![tactic(auto)]
 
 use currency::Currency;
-use intake::Given;
+use lines::Number;
 
 mod hearing;
 mod reading;
@@ -27,34 +27,31 @@ pub struct Form {
 pub struct Heard {
     // so many numbers
     pub count: usize,
-    // the last word was the code of an amount, whose text comes next, and of which currency
-    pub awaited: bool,
-    pub currency: Currency,
+    // the last word was the code of an amount of this currency, whose text comes next
+    pub awaited: Option<Currency>,
     // the first number is a currency that was given by its code
     pub coded: bool,
     // one of them can't stand where it stands
     pub wrong: bool,
-    // the number of the refusal of the first text that is refused, 0 where none is
-    pub refused: u8,
+    // the number of the refusal of the first text that is refused
+    pub refused: Option<u8>,
 }
 
 // What a word is: a number, in front of which another may stand; and what is heard with it.
 #[derive(Clone, Copy)]
 pub struct Step {
     pub next: Heard,
-    pub two: bool,
-    pub front: u64,
-    pub negative: bool,
-    pub last: u64,
+    pub front: Option<Number>,
+    pub last: Number,
 }
 
-// A line's words: how many numbers they are, or that they are not understood; whether the first is a currency given by its code; and the number of the
-// refusal of the first text that is refused, 0 where none is.
+// A line's words: how many numbers they are, where they are understood; whether the first is a currency given by its code; and the number of the
+// refusal of the first text that is refused.
 #[derive(Clone, Copy)]
 pub struct Spoken {
-    pub given: Given,
+    pub given: Option<usize>,
     pub coded: bool,
-    pub refused: u8,
+    pub refused: Option<u8>,
 }
 
 pub use reading::read_words;

@@ -1,54 +1,45 @@
-// The words of a line, one after another, and their numbers into two lists, signs and magnitudes.
+// The words of a line, one after another, and their numbers into a list.
 ghost use Rattle.std.specs.Prelude.{◌≡◌};
-ghost use Rattle.spoken.specs.Reading.{put_signs, put_magnitudes, silence, read_of, spoken_of};
+ghost use Rattle.spoken.specs.Reading.{put_numbers, silence, read_of, spoken_of};
 
 use crate::hearing::{add, hear};
 use crate::{Form, Heard, Spoken, Step};
-use currency::Currency;
-use intake::{Given, put_magnitude, put_sign};
-use lines::word_from;
+use intake::put;
+use lines::{Number, word_from};
 
 fn nothing_heard() -> Heard
     ensures { result ≡ silence }
 {
     Heard {
         count: 0,
-        awaited: false,
-        currency: Currency(0),
+        awaited: None,
         coded: false,
         wrong: false,
-        refused: 0,
+        refused: None,
     }
 }
 
-// A word's number at a place of the two lists, or its two from that place on, where the lists have them.
-fn put_step(step: Step, place: usize, signs: &mut [bool], values: &mut [u64])
-    ensures signs_after { signs.new ≡ put_signs step place signs.old }
-    ensures values_after { values.new ≡ put_magnitudes step place values.old }
+// A word's number at a place of the list, or its two from that place on, where the list has them.
+fn put_step(step: Step, place: usize, numbers: &mut [Number])
+    ensures { numbers.new ≡ put_numbers step place numbers.old }
 {
-    if !step.two {
-        put_sign(signs, place, step.negative);
-        put_magnitude(values, place, step.last);
-        return;
+    match step.front {
+        None => put(numbers, place, step.last),
+        Some(front) => {
+            put(numbers, place, front);
+            put(numbers, add(place, 1), step.last);
+        },
     }
-    put_sign(signs, place, false);
-    put_magnitude(values, place, step.front);
-    let behind = add(place, 1);
-    put_sign(signs, behind, step.negative);
-    put_magnitude(values, behind, step.last);
 }
 
+#[tactic(auto, unfolding(crate::specs::Reading::spoken_of))]
 fn spoken_of(heard: Heard) -> Spoken
     ensures { result ≡ spoken_of heard }
 {
-    let given = if heard.wrong {
-        Given::Others
+    let given = if heard.wrong || heard.awaited.is_some() {
+        None
     } else {
-        if heard.awaited {
-            Given::Others
-        } else {
-            Given::Numbers(heard.count)
-        }
+        Some(heard.count)
     };
     Spoken {
         given,
@@ -57,17 +48,11 @@ fn spoken_of(heard: Heard) -> Spoken
     }
 }
 
-// The words of a line from a place on, of a form: their numbers stand in the two lists.
-pub fn read_words(
-    line: &[u8],
-    from: usize,
-    form: Form,
-    signs: &mut [bool],
-    values: &mut [u64],
-) -> Spoken
-    ensures said { result ≡ spoken_of (read_of line.now from form signs.old values.old).heard }
-    ensures signs { signs.new ≡ (read_of line.now from form signs.old values.old).signs }
-    ensures magnitudes { values.new ≡ (read_of line.now from form signs.old values.old).magnitudes }
+// A `while` from word to word: no index is counted.
+// The words of a line from a place on, of a form: their numbers stand in the list.
+pub fn read_words(line: &[u8], from: usize, form: Form, numbers: &mut [Number]) -> Spoken
+    ensures said { result ≡ spoken_of (read_of line.now from form numbers.old).heard }
+    ensures numbers { numbers.new ≡ (read_of line.now from form numbers.old).numbers }
 {
     let mut at = from;
     let mut heard = nothing_heard();
@@ -79,7 +64,7 @@ pub fn read_words(
         }
         let place = heard.count;
         let step = hear(line, word, form, heard);
-        put_step(step, place, signs, values);
+        put_step(step, place, numbers);
         heard = step.next;
         at = end;
     }

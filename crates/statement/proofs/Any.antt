@@ -1,6 +1,9 @@
 -- A test that holds at one of the first so many places, as a loop looks for one. Assumes nothing.
 use mathlib.Core.Path.{◌≡◌, refl, sym, ◌∙◌, ap}
 use mathlib.Core.Bool.{Bool, true, false, ◌||◌}
+use mathlib.Core.List.{List, [], ◌∷◌}
+use lib.ListN.{length, get_or}
+use Rattle.std.specs.List.{list_any}
 use Prim.Native.Nat.{ℕ, zero, suc, ◌+◌, ◌<◌}
 use native.Mathlib.Decide.{ℕ_discrete}
 use native.Mathlib.Numerals.{add-one}
@@ -18,6 +21,27 @@ or_left false b e = refl
 pub or_right : (a b : Bool) → a || b ≡ false → b ≡ false
 or_right true b e = let z : ◌≡◌ {A = ℕ} 0 1 = cc in absurd (omega arith)
 or_right false b e = e
+
+or_false : (b : Bool) → b || false ≡ b
+or_false true = refl
+or_false false = refl
+
+or_or : (a b c : Bool) → (a || b) || c ≡ a || (b || c)
+or_or true b c = refl
+or_or false b c = refl
+
+-- the first place by itself
+any_front : (f : ℕ → Bool) (n : ℕ) → any_of f (suc n) ≡ f 0 || any_of (λ i. f (suc i)) n
+unfolding any_of
+any_front f zero = sym (or_false (f 0))
+any_front f (suc n) = ap (λ (b : Bool). b || f (suc n)) (any_front f n) ∙ or_or (f 0) (any_of (λ i. f (suc i)) n) (f (suc n))
+
+-- a test that holds at one of a list's places, as std looks for one
+pub any_is : {X : Type 0} (test : X → Bool) (d : X) (xs : List X) → list_any test xs ≡ any_of (λ i. test (get_or xs i d)) (length xs)
+unfolding any_of
+any_is test d [] = refl
+any_is test d (x ∷ xs) =
+    ap (λ (b : Bool). test x || b) (any_is test d xs) ∙ sym (any_front (λ i. test (get_or (x ∷ xs) i d)) (length xs))
 
 module _ (f : ℕ → Bool) where
   pub none_yet : any_of f 0 ≡ false

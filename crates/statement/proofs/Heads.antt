@@ -1,7 +1,8 @@
 -- A record's first eight bytes as one number, and what stands behind its coefficient as another: what they say of the numbers in them. Assumes nothing.
 use mathlib.Core.Path.{◌≡◌, refl, sym, ◌∙◌, ap, ap₂}
 use mathlib.Core.Bool.{Bool, true, false, ◌||◌}
-use mathlib.Core.List.{List}
+use mathlib.Core.List.{List, [], ◌∷◌}
+use Rattle.std.specs.Int.{w64, from_le_bytes}
 use Prim.Native.Nat.{ℕ, zero, suc, ◌+◌, ◌*◌, ◌/◌, ◌^◌, ◌≤◌}
 use native.Mathlib.Nat.{pow-suc}
 use native.Mathlib.Omega.{arith}
@@ -12,12 +13,14 @@ use Rattle.whole.specs.Whole.{magnitude_of}
 use Rattle.currency.specs.Table.{last_currency}
 use Rattle.amount.specs.Amounts.{largest, over_l}
 use Rattle.statement.specs.Bytes.{number_at, from_word}
-use Rattle.statement.specs.Files.{record_width, code_bytes, code_zeros, last_place}
+use Rattle.statement.specs.Files.{code_bytes, code_zeros, last_place}
 use Rattle.statement.specs.Reading.{bad_code, bad_record}
 use Rattle.statement.specs.Parts.{bad_head}
 use Rattle.statement.proofs.ReadBack.{Bytes, number_below}
 use Rattle.statement.proofs.Any.{or_left, or_right}
 use Rattle.statement.proofs.Accepted.{good_at, not_bad_at, good_code, not_bad_code, same_not}
+use Rattle.statement.specs.declared.Version.TheVariants.{Plain, Reasons}
+use Rattle.statement.specs.declared.Version.{Version}
 
 -- two tests of which neither fails alone
 both_or_none : (a b : Bool) → (a ≡ false → b ≡ false) → (b ≡ false → a ≡ false) → a ≡ b
@@ -38,18 +41,24 @@ number_split bytes at (suc a) b =
     let behind = ap (λ (k : ℕ). number_at bytes k b) there in
     ap (number_at bytes at) more ∙ omega (arith, number_split bytes (suc at) a b, behind, ap (λ (x : ℕ). x * number_at bytes (at + suc a) b) (pow-suc 256 a), ap (λ (x : ℕ). 256 ^ a * x) behind)
 
--- four bytes, and eight, as a program adds them up
-pub four_is : (bytes : List ℕ) (at w x y z : ℕ) → w ≡ get_or bytes at 0 → x ≡ get_or bytes (at + 1) 0 → y ≡ get_or bytes (at + 2) 0 → z ≡ get_or bytes (at + 3) 0
-    → w + 256 * x + 65536 * y + 16777216 * z ≡ number_at bytes at 4
+-- eight bytes, as a program reads them
+pub eight_is : (bytes : List ℕ) (at n : ℕ)
+    → n ≡ from_le_bytes w64 (get_or bytes at 0 ∷ get_or bytes (at + 1) 0 ∷ get_or bytes (at + 2) 0 ∷ get_or bytes (at + 3) 0 ∷ get_or bytes (at + 4) 0 ∷ get_or bytes (at + 5) 0 ∷ get_or bytes (at + 6) 0 ∷ get_or bytes (at + 7) 0 ∷ [])
+    → n ≡ number_at bytes at 8
 unfolding number_at
-four_is bytes at w x y z ew ex ey ez =
-    let one : at + 1 ≡ suc at = omega arith in
-    let two : at + 2 ≡ suc (suc at) = omega arith in
-    let three : at + 3 ≡ suc (suc (suc at)) = omega arith in
-    omega (arith, ew, ex, ey, ez, ap (λ (k : ℕ). get_or bytes k 0) one, ap (λ (k : ℕ). get_or bytes k 0) two, ap (λ (k : ℕ). get_or bytes k 0) three)
-
-pub eight_is : (bytes : List ℕ) (at low high : ℕ) → low ≡ number_at bytes at 4 → high ≡ number_at bytes (at + 4) 4 → low + 4294967296 * high ≡ number_at bytes at 8
-eight_is bytes at low high el eh = omega (arith, number_split bytes at 4 4, el, eh)
+eight_is bytes at n is =
+    let byte : (i j : ℕ) → i ≡ j → get_or bytes i 0 ≡ get_or bytes j 0 = λ i j e. ap (λ (k : ℕ). get_or bytes k 0) e in
+    omega (
+      arith,
+      is,
+      byte (at + 1) (suc at) (omega arith),
+      byte (at + 2) (suc (suc at)) (omega arith),
+      byte (at + 3) (suc (suc (suc at))) (omega arith),
+      byte (at + 4) (suc (suc (suc (suc at)))) (omega arith),
+      byte (at + 5) (suc (suc (suc (suc (suc at))))) (omega arith),
+      byte (at + 6) (suc (suc (suc (suc (suc (suc at)))))) (omega arith),
+      byte (at + 7) (suc (suc (suc (suc (suc (suc (suc at))))))) (omega arith),
+    )
 
 module _ (bytes : List ℕ) (b : Bytes bytes) (at agreed : ℕ) where
   head_is : number_at bytes at 8 ≡ number_at bytes at 2 + 65536 * number_at bytes (at + 2) 2 + 4294967296 * number_at bytes (at + 4) 4
@@ -79,63 +88,59 @@ module _ (bytes : List ℕ) (b : Bytes bytes) (at : ℕ) where
       let there : at + 16 + 2 ≡ at + 18 = omega arith in
       omega (arith, number_split bytes (at + 16) 2 6, ap (λ (k : ℕ). number_at bytes k 6) there)
 
-  pub code_with : (reasons : Bool) → reasons ≡ true
-      → ltb 99 (number_at bytes (at + 16) 8) ≡ bad_code reasons (number_at bytes (at + 16) (code_bytes reasons)) (number_at bytes (at + (16 + code_bytes reasons)) (code_zeros reasons))
-  code_with true e =
-      both_or_none (ltb 99 (number_at bytes (at + 16) 8)) (bad_code true (number_at bytes (at + 16) 2) (number_at bytes (at + 18) 6))
+  pub code_with : (version : Version) → version ≡ Reasons
+      → ltb 99 (number_at bytes (at + 16) 8) ≡ bad_code version (number_at bytes (at + 16) (code_bytes version)) (number_at bytes (at + (16 + code_bytes version)) (code_zeros version))
+  code_with Reasons e =
+      both_or_none (ltb 99 (number_at bytes (at + 16) 8)) (bad_code Reasons (number_at bytes (at + 16) 2) (number_at bytes (at + 18) 6))
       (λ f. let h = ltb-false 99 (number_at bytes (at + 16) 8) f in
-      not_bad_code true (number_at bytes (at + 16) 2) (number_at bytes (at + 18) 6) (omega (arith, h, behind_is)) (omega (arith, h, behind_is)))
-      (λ f. let g = good_code true (number_at bytes (at + 16) 2) (number_at bytes (at + 18) 6) f in
+      not_bad_code Reasons (number_at bytes (at + 16) 2) (number_at bytes (at + 18) 6) (omega (arith, h, behind_is)) (omega (arith, h, behind_is)))
+      (λ f. let g = good_code Reasons (number_at bytes (at + 16) 2) (number_at bytes (at + 18) 6) f in
       le-ltb 99 (number_at bytes (at + 16) 8) (omega (arith, g.0, g.1, behind_is)))
-  code_with false e = let z : ◌≡◌ {A = ℕ} 0 1 = cc in absurd (omega arith)
+  code_with Plain e = let z : ◌≡◌ {A = ℕ} 0 1 = cc in absurd (omega arith)
 
-pub code_without : (bytes : List ℕ) (at : ℕ) (reasons : Bool) → reasons ≡ false
-    → false ≡ bad_code reasons (number_at bytes (at + 16) (code_bytes reasons)) (number_at bytes (at + (16 + code_bytes reasons)) (code_zeros reasons))
+pub code_without : (bytes : List ℕ) (at : ℕ) (version : Version) → version ≡ Plain
+    → false ≡ bad_code version (number_at bytes (at + 16) (code_bytes version)) (number_at bytes (at + (16 + code_bytes version)) (code_zeros version))
 unfolding number_at
-code_without bytes at true e = let z : ◌≡◌ {A = ℕ} 0 1 = cc in absurd (omega arith)
-code_without bytes at false e = refl
-
-pub width_with : (reasons : Bool) → reasons ≡ true → record_width reasons ≡ 24
-width_with true e = refl
-width_with false e = let z : ◌≡◌ {A = ℕ} 0 1 = cc in absurd (omega arith)
+code_without bytes at Reasons e = let z : ◌≡◌ {A = ℕ} 0 1 = cc in absurd (omega arith)
+code_without bytes at Plain e = refl
 
 -- a record is bad by its head, or by its coefficient, or by what stands behind it
-module _ (reasons : Bool) (bytes : List ℕ) (b : Bytes bytes) (agreed at : ℕ) where
+module _ (version : Version) (bytes : List ℕ) (b : Bytes bytes) (agreed at : ℕ) where
   abbrev over : Bool
   over = over_l (magnitude_of (from_word (number_at bytes (at + 8) 8)))
 
   abbrev code : ℕ
-  code = number_at bytes (at + 16) (code_bytes reasons)
+  code = number_at bytes (at + 16) (code_bytes version)
 
   abbrev blanks : ℕ
-  blanks = number_at bytes (at + (16 + code_bytes reasons)) (code_zeros reasons)
+  blanks = number_at bytes (at + (16 + code_bytes version)) (code_zeros version)
 
-  bad_is : bad_head (number_at bytes at 8) agreed || (over || bad_code reasons code blanks) ≡ bad_record reasons bytes agreed at
+  bad_is : bad_head (number_at bytes at 8) agreed || (over || bad_code version code blanks) ≡ bad_record version bytes agreed at
   bad_is =
-      both_or_none (bad_head (number_at bytes at 8) agreed || (over || bad_code reasons code blanks)) (bad_record reasons bytes agreed at)
+      both_or_none (bad_head (number_at bytes at 8) agreed || (over || bad_code version code blanks)) (bad_record version bytes agreed at)
       (λ e.
       let head = head_good bytes b at agreed (or_left (bad_head (number_at bytes at 8) agreed) _ e) in
-      let rest = or_right (bad_head (number_at bytes at 8) agreed) (over || bad_code reasons code blanks) e in
-      let behind = good_code reasons code blanks (or_right over (bad_code reasons code blanks) rest) in
-      not_bad_at reasons bytes agreed at (record {
+      let rest = or_right (bad_head (number_at bytes at 8) agreed) (over || bad_code version code blanks) e in
+      let behind = good_code version code blanks (or_right over (bad_code version code blanks) rest) in
+      not_bad_at version bytes agreed at (record {
         numbers = record { placed = head.0; known = head.1; agrees = head.2; empty = head.3; within = ltb-false largest (magnitude_of (from_word (number_at bytes (at + 8) 8))) (or_left over _ rest) };
         coded = behind.0;
         blank = behind.1;
       }))
       (λ e.
-      let g = good_at reasons bytes agreed at e in
+      let g = good_at version bytes agreed at e in
       let n = g.numbers in
       simp (
         good_head bytes b at agreed n.placed n.known n.agrees n.empty,
         le-ltb largest (magnitude_of (from_word (number_at bytes (at + 8) 8))) n.within,
-        not_bad_code reasons code blanks g.coded g.blank,
+        not_bad_code version code blanks g.coded g.blank,
       ))
 
-  pub bad_by_head : bad_head (number_at bytes at 8) agreed ≡ true → true ≡ bad_record reasons bytes agreed at
-  bad_by_head h = ap (λ (x : Bool). x || (over || bad_code reasons code blanks)) (sym h) ∙ bad_is
+  pub bad_by_head : bad_head (number_at bytes at 8) agreed ≡ true → true ≡ bad_record version bytes agreed at
+  bad_by_head h = ap (λ (x : Bool). x || (over || bad_code version code blanks)) (sym h) ∙ bad_is
 
-  pub bad_by_word : bad_head (number_at bytes at 8) agreed ≡ false → over ≡ true → true ≡ bad_record reasons bytes agreed at
-  bad_by_word h w = ap₂ (λ (x y : Bool). x || (y || bad_code reasons code blanks)) (sym h) (sym w) ∙ bad_is
+  pub bad_by_word : bad_head (number_at bytes at 8) agreed ≡ false → over ≡ true → true ≡ bad_record version bytes agreed at
+  bad_by_word h w = ap₂ (λ (x y : Bool). x || (y || bad_code version code blanks)) (sym h) (sym w) ∙ bad_is
 
-  pub bad_by_code : bad_head (number_at bytes at 8) agreed ≡ false → over ≡ false → bad_code reasons code blanks ≡ bad_record reasons bytes agreed at
-  bad_by_code h w = ap₂ (λ (x y : Bool). x || (y || bad_code reasons code blanks)) (sym h) (sym w) ∙ bad_is
+  pub bad_by_code : bad_head (number_at bytes at 8) agreed ≡ false → over ≡ false → bad_code version code blanks ≡ bad_record version bytes agreed at
+  bad_by_code h w = ap₂ (λ (x y : Bool). x || (y || bad_code version code blanks)) (sym h) (sym w) ∙ bad_is

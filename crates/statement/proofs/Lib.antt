@@ -7,7 +7,6 @@ pub mod Totals
 pub mod Fields
 mod Behind
 mod Widths
-mod Walk
 mod Run
 pub mod Accepted
 mod Heads

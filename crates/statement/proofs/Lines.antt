@@ -1,6 +1,5 @@
 -- Document 02's own bytes, by computing both sides. Assumes nothing.
 use mathlib.Core.Path.{◌≡◌, refl}
-use mathlib.Core.Bool.{true}
 use mathlib.Core.List.{List, [], ◌∷◌, ◌++◌}
 use Prim.Native.Nat.{ℕ}
 use lib.IntN.{pos, negsuc}
@@ -10,6 +9,7 @@ use Rattle.statement.specs.Bytes.{little_endian, number_at, word_of, from_word, 
 use Rattle.statement.specs.Files.{Piece, record_bytes, trailer_bytes, joined, total_of, file_of, file_bytes}
 use Rattle.statement.specs.Writing.{any_of, reasons_rows, payout_with, payout, reasons_said}
 use Rattle.statement.specs.Reading.{trailer_at, bad_record, newer, version_rows, read_rows, summary_in, read_said, any_rows, any_said}
+use Rattle.statement.specs.declared.Version.TheVariants.{Reasons}
 
 -- "place 2, euro, -12.50"
 abbrev one : ℕ → Piece
@@ -65,15 +65,15 @@ abbrev second_close : List ℕ
 second_close =
     24 ∷ 0 ∷ 0 ∷ 0 ∷ 1 ∷ 0 ∷ 0 ∷ 0 ∷ 30 ∷ 251 ∷ 255 ∷ 255 ∷ 255 ∷ 255 ∷ 255 ∷ 255 ∷ 2 ∷ 0 ∷ 0 ∷ 0 ∷ 0 ∷ 0 ∷ 0 ∷ 0 ∷ []
 
-pub second_whole : file_of true seven 1 ≡ line ++ (behind ++ second_close)
+pub second_whole : file_of Reasons seven 1 ≡ line ++ (behind ++ second_close)
 unfolding file_of joined record_bytes trailer_bytes field_bytes little_endian word_of total_of
 second_whole = refl
 
-pub second_read : any_said (line ++ (behind ++ second_close)) ≡ gives (record { version = 2; first = 0; count = 1; sum = negsuc 1249 })
+pub second_read : any_said (line ++ (behind ++ second_close)) ≡ gives (record { version = 2; summary = record { first = 0; count = 1; sum = negsuc 1249 } })
 unfolding any_said any_rows version_rows summary_in trailer_at bad_record any_of total_of number_at word_of from_word
 second_read = refl
 
-pub first_read_too : any_said (line ++ close) ≡ gives (record { version = 1; first = 0; count = 1; sum = negsuc 1249 })
+pub first_read_too : any_said (line ++ close) ≡ gives (record { version = 1; summary = record { first = 0; count = 1; sum = negsuc 1249 } })
 unfolding any_said any_rows version_rows summary_in trailer_at bad_record any_of total_of number_at word_of from_word
 first_read_too = refl
 

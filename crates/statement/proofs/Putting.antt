@@ -1,43 +1,44 @@
--- A loop that puts a number's bytes into a list from a place on: its start, a turn and its end. Assumes nothing.
-use mathlib.Core.Path.{◌≡◌, refl, sym, ◌∙◌, ap, ap₂}
+-- A number's bytes as they are put into a list from a place on. Assumes nothing.
+use mathlib.Core.Path.{◌≡◌, refl, sym, ◌∙◌, ap}
 use mathlib.Core.List.{List, [], ◌∷◌, ◌++◌, append_assoc, append-nil}
-use Prim.Native.Nat.{ℕ, suc, ◌+◌, ◌-◌, ◌/◌, ◌%◌, ◌≤◌, ◌<◌}
-use native.Mathlib.Numerals.{add-one}
+use Prim.Native.Nat.{ℕ, suc, ◌+◌, ◌/◌, ◌%◌, ◌≤◌}
 use native.Mathlib.Omega.{arith}
-use lib.ListN.{length, get_or, drop, set, length-append}
-use lib.Seq.{drop-cons, paste, paste-suc}
+use lib.ListN.{length, length-append}
+use Rattle.std.specs.Int.{w64, to_le_bytes}
+use Rattle.std.proofs.lemmas.Slice.{put_mid-paste}
+use borrow.Rule.Slice.PartMut.{put_mid}
+use lib.ListN.{take}
+use Prim.Native.Nat.{zero}
 use Rattle.statement.specs.Bytes.{little_endian, Field, field, field_bytes, pasted}
 use Rattle.statement.proofs.Pasting.{paste_all, paste_nothing, paste_behind}
 use Rattle.statement.proofs.ReadBack.{length_little}
 
-first_same : {a b : ℕ} {l m : List ℕ} → a ∷ l ≡ b ∷ m → a ≡ b
-first_same e = cc
+-- the first bytes of so many are so many of the number's
+take_little : (count k n : ℕ) → count ≤ k → take count (little_endian k n) ≡ little_endian count n
+unfolding little_endian
+take_little zero k n h = refl
+take_little (suc count) zero n h = absurd (omega arith)
+take_little (suc count) (suc k) n h = ap (λ (l : List ℕ). n % 256 ∷ l) (take_little count k (n / 256) (omega arith))
 
-rest_same : {a b : ℕ} {l m : List ℕ} → a ∷ l ≡ b ∷ m → l ≡ m
-rest_same e = cc
+-- as std writes a word
+eight_little : (n : ℕ) → to_le_bytes w64 n ≡ little_endian 8 n
+unfolding little_endian
+eight_little n =
+    let e1 : n / 256 % 256 ≡ n / 256 % 256 = refl in
+    let e2 : n / 65536 ≡ n / 256 / 256 = omega arith in
+    let e3 : n / 16777216 ≡ n / 256 / 256 / 256 = omega arith in
+    let e4 : n / 4294967296 ≡ n / 256 / 256 / 256 / 256 = omega arith in
+    let e5 : n / 1099511627776 ≡ n / 256 / 256 / 256 / 256 / 256 = omega arith in
+    let e6 : n / 281474976710656 ≡ n / 256 / 256 / 256 / 256 / 256 / 256 = omega arith in
+    let e7 : n / 72057594037927936 ≡ n / 256 / 256 / 256 / 256 / 256 / 256 / 256 = omega arith in
+    rw (e2, e3, e4, e5, e6, e7)
 
-module _ (out : List ℕ) (at count number : ℕ) where
-  abbrev new : List ℕ
-  new = little_endian count number
+pub first_bytes : (count n : ℕ) → count ≤ 8 → take count (to_le_bytes w64 n) ≡ little_endian count n
+first_bytes count n h = ap (take count) (eight_little n) ∙ take_little count 8 n h
 
-  module _ (i rest : ℕ) (more : i < count) (left : drop i new ≡ little_endian (count - i) rest) where
-    split : get_or new i 0 ∷ drop (suc i) new ≡ rest % 256 ∷ little_endian (count - (i + 1)) (rest / 256)
-    unfolding little_endian
-    split =
-        let one : count - i ≡ suc (count - (i + 1)) = omega arith in
-        sym (drop-cons new i 0 (omega (arith, length_little count number))) ∙ left ∙ ap (λ (k : ℕ). little_endian k rest) one
-
-    pub put_rest : drop (i + 1) new ≡ little_endian (count - (i + 1)) (rest / 256)
-    put_rest = ap (λ (k : ℕ). drop k new) (add-one i) ∙ rest_same split
-
-    pub put_more : (held : List ℕ) → held ≡ paste out at new i → at + count ≤ length out → set held (at + i) (rest % 256) ≡ paste out at new (i + 1)
-    put_more held so_far room =
-        ap₂ (λ (l : List ℕ) (b : ℕ). set l (at + i) b) so_far (sym (first_same split))
-        ∙ paste-suc out at new i 0 (omega arith) (omega (arith, length_little count number))
-        ∙ ap (paste out at new) (sym (add-one i))
-
-  pub put_all : (held : List ℕ) (i : ℕ) → i ≡ count → held ≡ paste out at new i → held ≡ pasted at new out
-  put_all held i e so_far = so_far ∙ ap (paste out at new) (e ∙ sym (length_little count number)) ∙ paste_all at new out
+-- a part of a list with others in its place
+pub put_in : (out new held : List ℕ) (at k : ℕ) → held ≡ new → length new ≡ k → put_mid at k out held ≡ pasted at new out
+put_in out new held at k is long = put_mid-paste at k out held new (length new) is long refl ∙ paste_all at new out
 
 -- fields put in one after the other, each at its place
 abbrev pub puts : (off : ℕ) → List Field → List ℕ → List ℕ

@@ -1,7 +1,7 @@
 -- Reading what was written gives the start, the count and the sum, and its records with their codes; and what stands before the start and behind
 -- the end stays. Of both versions, by one argument. Assumes nothing.
+use Rattle.std.specs.Prelude.{Some}
 use mathlib.Core.Path.{◌≡◌, refl, sym, ◌∙◌, ap, subst}
-use mathlib.Core.Bool.{Bool, true, false}
 use mathlib.Core.List.{List, [], ◌++◌, append_assoc}
 use Prim.Native.Nat.{ℕ, ◌+◌, ◌≤◌, ◌<◌}
 use native.Mathlib.Omega.{arith}
@@ -15,7 +15,6 @@ use Rattle.statement.specs.Bytes.{pasted}
 use Rattle.statement.specs.Files.{version_of, record_width, record_bytes, trailer_bytes, joined, total_of, file_of, file_bytes, file_size, Ends}
 use Rattle.statement.specs.Writing.{write_rows, reasons_rows, payout_with, payout, write_said, reasons_said, buffer_after}
 use Rattle.statement.specs.Reading.{read_said, any_said}
-use Rattle.statement.specs.declared.AnyStep.TheVariants.{Next as AnyNext}
 use Rattle.statement.specs.Walking.{any_step, walked}
 use Rattle.statement.specs.Parts.{Writable}
 use Rattle.statement.proofs.Behind.{length_joined}
@@ -24,6 +23,8 @@ use Rattle.statement.proofs.Answered.{writable, writable_reasons}
 use Rattle.statement.proofs.Exactly.{file_said}
 use Rattle.statement.proofs.Both.{any_file_said}
 use Rattle.statement.proofs.Handed.{reasoned_of, handed_out}
+use Rattle.statement.specs.declared.Version.TheVariants.{Plain, Reasons}
+use Rattle.statement.specs.declared.Version.{Version}
 
 module _ (at : ℕ) (new old : List ℕ) (h : at + length new ≤ length old) where
   long : length (take at old ++ new) ≡ at + length new
@@ -46,28 +47,28 @@ module _ (at : ℕ) (new old : List ℕ) (h : at + length new ≤ length old) wh
   front_pasted = take_at (take at old) (new ++ drop (at + length new) old) at (length-take-le at old (omega arith))
 
 -- a run that keeps the limits of its version, and the buffer with its file
-module _ (reasons : Bool) (currency : Currency) (places codes : List ℕ) (coefficients : List ℤ) (out : List ℕ) (start : ℕ)
-    (room : Writable reasons currency places codes coefficients (length out) start) where
+module _ (version : Version) (currency : Currency) (places codes : List ℕ) (coefficients : List ℤ) (out : List ℕ) (start : ℕ)
+    (room : Writable version currency places codes coefficients (length out) start) where
   abbrev pub file : List ℕ
-  file = file_of reasons (payout_with currency places codes coefficients) (length places)
+  file = file_of version (payout_with currency places codes coefficients) (length places)
 
   abbrev pub end : ℕ
-  end = start + file_size reasons (length places)
+  end = start + file_size version (length places)
 
   abbrev pub after : List ℕ
-  after = pasted start (file_of reasons (payout_with currency places codes coefficients) (length places)) out
+  after = pasted start (file_of version (payout_with currency places codes coefficients) (length places)) out
 
-  file_long : length file ≡ file_size reasons (length places)
+  file_long : length file ≡ file_size version (length places)
   unfolding file_of
   file_long =
-      let pieces : ℕ → List ℕ = λ i. record_bytes reasons (payout_with currency places codes coefficients i) in
-      let width : ℕ = record_width reasons in
-      let tail : List ℕ = trailer_bytes width (length places) (total_of (λ i. (payout_with currency places codes coefficients i).coefficient) (length places)) (version_of reasons) in
+      let pieces : ℕ → List ℕ = λ i. record_bytes version (payout_with currency places codes coefficients i) in
+      let width : ℕ = record_width version in
+      let tail : List ℕ = trailer_bytes width (length places) (total_of (λ i. (payout_with currency places codes coefficients i).coefficient) (length places)) (version_of version) in
       length-append (joined pieces (length places)) tail
       ∙ omega (
         arith,
-        length_joined pieces width (λ i. length_record reasons _) (length places),
-        length_trailer width (length places) (total_of (λ i. (payout_with currency places codes coefficients i).coefficient) (length places)) (version_of reasons),
+        length_joined pieces width (λ i. length_record version _) (length places),
+        length_trailer width (length places) (total_of (λ i. (payout_with currency places codes coefficients i).coefficient) (length places)) (version_of version),
       )
 
   end_long : start + length file ≡ end
@@ -87,7 +88,7 @@ module _ (reasons : Bool) (currency : Currency) (places codes : List ℕ) (coeff
   front_is = subst (λ (k : ℕ). take k (pasted start file out) ≡ take start out ++ file) end_long (take_pasted start file out inside)
 
   -- they end in the file of the run
-  pub written_ends : Ends reasons (take end after) start (length places) (total_of (λ i. get_or coefficients i (pos 0)) (length places))
+  pub written_ends : Ends version (take end after) start (length places) (total_of (λ i. get_or coefficients i (pos 0)) (length places))
   written_ends =
       record {
         front = take start out;
@@ -103,22 +104,22 @@ module _ (reasons : Bool) (currency : Currency) (places codes : List ℕ) (coeff
 
   -- and a walk over it hands out the payouts as they were given, with their codes, in order
   pub records_back : (i : ℕ) → i < length places
-      → any_step reasons (take end after) (walked reasons (take end after) start i) ≡ AnyNext (reasoned_of (payout_with currency places codes coefficients i))
+      → any_step version (take end after) (walked version (take end after) start i) ≡ Some (reasoned_of (payout_with currency places codes coefficients i))
   unfolding written_ends
-  records_back i h = handed_out reasons (take end after) start (length places) (total_of (λ k. get_or coefficients k (pos 0)) (length places)) written_ends i h
+  records_back i h = handed_out version (take end after) start (length places) (total_of (λ k. get_or coefficients k (pos 0)) (length places)) written_ends i h
 
 -- Ask 3's call
 module _ (currency : Currency) (places : List ℕ) (coefficients : List ℤ) (out : List ℕ) (start ended : ℕ)
     (said : write_said currency places coefficients (length out) start ≡ gives ended) where
-  pub room_left : Writable false currency places [] coefficients (length out) start
+  pub room_left : Writable Plain currency places [] coefficients (length out) start
   unfolding write_said
   room_left =
       writable currency places coefficients (length out) start
-      (let_pass (start + file_size false (length places)) ended (write_rows currency places coefficients (length out) start) said)
+      (let_pass (start + file_size Plain (length places)) ended (write_rows currency places coefficients (length out) start) said)
 
-  pub end_is : end false currency places [] coefficients out start room_left ≡ ended
+  pub end_is : end Plain currency places [] coefficients out start room_left ≡ ended
   unfolding write_said
-  end_is = same_value (start + file_size false (length places)) ended (write_rows currency places coefficients (length out) start) said
+  end_is = same_value (start + file_size Plain (length places)) ended (write_rows currency places coefficients (length out) start) said
 
   pub read_written : read_said (take ended (buffer_after (gives ended) start (file_bytes (payout currency places coefficients) (length places)) out))
       ≡ gives (record { first = start; count = length places; sum = total_of (λ i. get_or coefficients i (pos 0)) (length places) })
@@ -126,34 +127,34 @@ module _ (currency : Currency) (places : List ℕ) (coefficients : List ℤ) (ou
   read_written =
       ap (λ (k : ℕ). read_said (take k (pasted start (file_bytes (payout currency places coefficients) (length places)) out))) (sym end_is)
       ∙ file_said _ start (length places) (total_of (λ i. get_or coefficients i (pos 0)) (length places))
-      (written_ends false currency places [] coefficients out start room_left)
+      (written_ends Plain currency places [] coefficients out start room_left)
 
 -- Ask 13's call
 module _ (currency : Currency) (places reasons : List ℕ) (coefficients : List ℤ) (out : List ℕ) (start ended : ℕ)
     (said : reasons_said currency places reasons coefficients (length out) start ≡ gives ended) where
   abbrev pub reasons_file : List ℕ
-  reasons_file = file_of true (payout_with currency places reasons coefficients) (length places)
+  reasons_file = file_of Reasons (payout_with currency places reasons coefficients) (length places)
 
   -- the bytes up to the end, afterwards
   abbrev pub written : List ℕ
-  written = take ended (buffer_after (gives ended) start (file_of true (payout_with currency places reasons coefficients) (length places)) out)
+  written = take ended (buffer_after (gives ended) start (file_of Reasons (payout_with currency places reasons coefficients) (length places)) out)
 
-  pub reasons_room : Writable true currency places reasons coefficients (length out) start
+  pub reasons_room : Writable Reasons currency places reasons coefficients (length out) start
   unfolding reasons_said
   reasons_room =
       writable_reasons currency places reasons coefficients (length out) start
-      (let_pass (start + file_size true (length places)) ended (reasons_rows currency places reasons coefficients (length out) start) said)
+      (let_pass (start + file_size Reasons (length places)) ended (reasons_rows currency places reasons coefficients (length out) start) said)
 
-  pub reasons_end_is : end true currency places reasons coefficients out start reasons_room ≡ ended
+  pub reasons_end_is : end Reasons currency places reasons coefficients out start reasons_room ≡ ended
   unfolding reasons_said
-  reasons_end_is = same_value (start + file_size true (length places)) ended (reasons_rows currency places reasons coefficients (length out) start) said
+  reasons_end_is = same_value (start + file_size Reasons (length places)) ended (reasons_rows currency places reasons coefficients (length out) start) said
 
-  pub reasons_end : Ends true written start (length places) (total_of (λ i. get_or coefficients i (pos 0)) (length places))
+  pub reasons_end : Ends Reasons written start (length places) (total_of (λ i. get_or coefficients i (pos 0)) (length places))
   unfolding buffer_after
   reasons_end =
-      subst (λ (k : ℕ). Ends true (take k (pasted start reasons_file out)) start (length places) (total_of (λ i. get_or coefficients i (pos 0)) (length places))) reasons_end_is
-      (written_ends true currency places reasons coefficients out start reasons_room)
+      subst (λ (k : ℕ). Ends Reasons (take k (pasted start reasons_file out)) start (length places) (total_of (λ i. get_or coefficients i (pos 0)) (length places))) reasons_end_is
+      (written_ends Reasons currency places reasons coefficients out start reasons_room)
 
   -- what was written is read back, with version, start, count and sum
-  pub read_reasons : any_said written ≡ gives (record { version = 2; first = start; count = length places; sum = total_of (λ i. get_or coefficients i (pos 0)) (length places) })
-  read_reasons = any_file_said written true start (length places) (total_of (λ i. get_or coefficients i (pos 0)) (length places)) reasons_end
+  pub read_reasons : any_said written ≡ gives (record { version = 2; summary = record { first = start; count = length places; sum = total_of (λ i. get_or coefficients i (pos 0)) (length places) } })
+  read_reasons = any_file_said written Reasons start (length places) (total_of (λ i. get_or coefficients i (pos 0)) (length places)) reasons_end

@@ -1,6 +1,5 @@
 -- A loop that puts records into a buffer from a start on: its start, a turn and its end. Assumes nothing.
 use mathlib.Core.Path.{◌≡◌, sym, ◌∙◌, ap}
-use mathlib.Core.Bool.{Bool, true, false}
 use mathlib.Core.List.{List, [], ◌++◌}
 use Prim.Native.Nat.{ℕ, ◌+◌, ◌*◌, ◌≤◌}
 use native.Mathlib.Omega.{arith}
@@ -11,11 +10,13 @@ use Rattle.statement.proofs.Pasting.{paste_nothing, paste_behind}
 use Rattle.statement.proofs.Behind.{joined_none, joined_more, length_joined}
 use Rattle.statement.proofs.Fields.{length_fields}
 use lib.IntN.{ℤ}
+use Rattle.statement.specs.declared.Version.TheVariants.{Plain, Reasons}
+use Rattle.statement.specs.declared.Version.{Version}
 
-pub length_record : (reasons : Bool) (p : Piece) → length (record_bytes reasons p) ≡ record_width reasons
+pub length_record : (version : Version) (p : Piece) → length (record_bytes version p) ≡ record_width version
 unfolding record_bytes
-length_record false p = length_fields (record_fields false p)
-length_record true p = length_fields (record_fields true p)
+length_record Plain p = length_fields (record_fields Plain p)
+length_record Reasons p = length_fields (record_fields Reasons p)
 
 pub length_trailer : (width count : ℕ) (sum : ℤ) (version : ℕ) → length (trailer_bytes width count sum version) ≡ trailer_width
 unfolding trailer_bytes

@@ -3,8 +3,9 @@
 
 ghost use Rattle.std.specs.Prelude.{◌≡◌};
 ghost use Rattle.statement.specs.Files.{version_of, record_width};
+ghost use Rattle.statement.specs.Parts.{Numbered};
 
-use refusal::{Checked, Refusal};
+use refusal::Refusal;
 
 mod looking;
 mod numbers;
@@ -31,11 +32,11 @@ pub const RECORD_WITH_REASON: usize = 24;
 // The bytes of a trailer.
 pub const TRAILER: usize = 24;
 
-// The answer of a run: the place behind the file's last byte, and 0 where the run is refused.
+// A file's version: 1, whose records are payouts alone, and 2, where each has a reason code behind it.
 #[derive(Clone, Copy)]
-pub struct Written {
-    pub outcome: Checked,
-    pub end: usize,
+pub enum Version {
+    Plain,
+    Reasons,
 }
 
 // A trailer's numbers, the sum as its word holds it.
@@ -60,9 +61,7 @@ pub struct Summary {
 #[derive(Clone, Copy)]
 pub struct SummaryOfAny {
     pub version: u16,
-    pub first: usize,
-    pub count: usize,
-    pub sum: i64,
+    pub summary: Summary,
 }
 
 // What a record says of one payout.
@@ -76,52 +75,45 @@ pub struct Payout {
 // What a record of either version says: reason 0 in version 1.
 #[derive(Clone, Copy)]
 pub struct Reasoned {
-    pub place: u16,
-    pub currency: u16,
-    pub coefficient: i64,
+    pub payout: Payout,
     pub reason: u16,
 }
 
-// What a walk over a file's records finds at a place.
-#[derive(Clone, Copy)]
-pub enum Step {
-    Next(Payout),
-    End,
+impl Version {
+    // The version's number.
+    pub fn number(self) -> u16
+        ensures { result ≡ version_of self }
+    {
+        match self {
+            Version::Plain => 1,
+            Version::Reasons => 2,
+        }
+    }
+
+    // The bytes of a record.
+    pub fn width(self) -> usize
+        ensures { result ≡ record_width self }
+    {
+        match self {
+            Version::Plain => RECORD,
+            Version::Reasons => RECORD_WITH_REASON,
+        }
+    }
 }
 
-// The same over the records of either version.
-#[derive(Clone, Copy)]
-pub enum AnyStep {
-    Next(Reasoned),
-    End,
-}
+// The version with a number, or refusal 14.
+impl TryFrom<u16> for Version {
+    type Error = Refusal;
 
-// The answer of a check.
-#[derive(Clone, Copy)]
-pub enum Found {
-    Value(Summary),
-    Refused(Refusal),
-}
+    ghost try_from_gives = { Numbered };
 
-// The same for a file of either version.
-#[derive(Clone, Copy)]
-pub enum FoundAny {
-    Value(SummaryOfAny),
-    Refused(Refusal),
-}
-
-// The bytes of a version's records.
-fn width_of(reasons: bool) -> usize
-    ensures { result ≡ record_width reasons }
-{
-    if reasons { RECORD_WITH_REASON } else { RECORD }
-}
-
-// A version's number.
-fn version_of(reasons: bool) -> u16
-    ensures { result ≡ version_of reasons }
-{
-    if reasons { 2 } else { 1 }
+    fn try_from(number: u16) -> Result<Version, Refusal> {
+        match number {
+            1 => Ok(Version::Plain),
+            2 => Ok(Version::Reasons),
+            _ => Err(Refusal::Malformed),
+        }
+    }
 }
 
 pub use reading::{check, check_any};

@@ -8,11 +8,11 @@ ghost use Rattle.statement.specs.Files.{record_width, code_bytes, code_zeros};
 ghost use Rattle.statement.specs.Reading.{coefficient_at, bad_code, bad_record, record_rows};
 ghost use Rattle.statement.specs.Parts.{Inside, bad_head};
 
-use crate::numbers::{add, eight_at, from_word, number_at, word_of};
-use crate::{REASON, width_of};
+use crate::numbers::{eight_at, from_word, number_at, word_of};
+use crate::{REASON, Version};
 use amount::Amount;
 use currency::Currency;
-use refusal::{Checked, Refusal};
+use refusal::Refusal;
 use whole::magnitude;
 
 // The first eight bytes of a record, by the currency that all records have.
@@ -20,7 +20,7 @@ fn bad_head(head: u64, agreed: u64) -> bool
     requires { agreed < 65536 }
     ensures { result ≡ bad_head head agreed }
 {
-    if (Currency::LAST as u64) < agreed {
+    if u64::from(Currency::LAST) < agreed {
         return true;
     }
     head / 16 != 4_096 * agreed
@@ -33,20 +33,20 @@ fn bad_word(word: u64) -> bool
 }
 
 // What stands behind a record's coefficient, its zeros with its code as one number.
-fn bad_code(bytes: &[u8], reasons: bool, at: usize) -> bool
-    requires { at + record_width reasons ≤ length bytes.now }
-    ensures { result ≡ bad_code reasons (number_at bytes.now (at + 16) (code_bytes reasons)) (number_at bytes.now (at + (16 + code_bytes reasons)) (code_zeros reasons)) }
+fn bad_code(bytes: &[u8], version: Version, at: usize) -> bool
+    requires { at + record_width version ≤ length bytes.now }
+    ensures { result ≡ bad_code version (number_at bytes.now (at + 16) (code_bytes version)) (number_at bytes.now (at + (16 + code_bytes version)) (code_zeros version)) }
 {
-    if reasons {
-        return (REASON as u64) < eight_at(bytes, at + 16);
+    match version {
+        Version::Plain => false,
+        Version::Reasons => u64::from(REASON) < eight_at(bytes, at + 16),
     }
-    false
 }
 
-fn bad_record(bytes: &[u8], reasons: bool, agreed: u64, at: usize) -> bool
+fn bad_record(bytes: &[u8], version: Version, agreed: u64, at: usize) -> bool
     requires agreed_bound { agreed < 65536 }
-    requires reasons_in_bounds { at + record_width reasons ≤ length bytes.now }
-    ensures { result ≡ bad_record reasons bytes.now agreed at }
+    requires record_in_bounds { at + record_width version ≤ length bytes.now }
+    ensures { result ≡ bad_record version bytes.now agreed at }
 {
     if bad_head(eight_at(bytes, at), agreed) {
         return true;
@@ -54,7 +54,7 @@ fn bad_record(bytes: &[u8], reasons: bool, agreed: u64, at: usize) -> bool
     if bad_word(eight_at(bytes, at + 8)) {
         return true;
     }
-    bad_code(bytes, reasons, at)
+    bad_code(bytes, version, at)
 }
 
 pub(crate) fn coefficient_at(bytes: &[u8], at: usize) -> i64
@@ -67,29 +67,25 @@ pub(crate) fn coefficient_at(bytes: &[u8], at: usize) -> i64
 // The first row that holds at the records and the trailer's sum, in one pass: an i64 holds the sum of records that keep their rule.
 pub(crate) fn check_records(
     bytes: &[u8],
-    reasons: bool,
+    version: Version,
     first: usize,
     count: usize,
     word: u64,
-) -> Checked
-    requires { Inside reasons (length bytes.now) first count }
-    ensures { result ≡ check_of (record_rows reasons bytes.now first count word) }
+) -> Result<(), Refusal>
+    requires { Inside version (length bytes.now) first count }
+    ensures { result ≡ check_of (record_rows version bytes.now first count word) }
 {
     let agreed = number_at(bytes, first + 2, 2);
-    let width = width_of(reasons);
     let mut sum: i64 = 0;
-    let mut at = first;
-    let mut i = 0;
-    while i < count {
-        if bad_record(bytes, reasons, agreed, at) {
-            return Checked::Refused(Refusal::Malformed);
+    for i in 0..count {
+        let at = first + version.width() * i;
+        if bad_record(bytes, version, agreed, at) {
+            return Err(Refusal::Malformed);
         }
-        sum = add(sum, coefficient_at(bytes, at));
-        at += width;
-        i += 1;
+        sum += coefficient_at(bytes, at);
     }
     if word_of(sum) != word {
-        return Checked::Refused(Refusal::Malformed);
+        return Err(Refusal::Malformed);
     }
-    Checked::Passed
+    Ok(())
 }

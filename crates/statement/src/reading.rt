@@ -1,18 +1,16 @@
 // Whether bytes end in a statement file, and what it says of itself.
-ghost use Rattle.std.specs.Prelude.{◌≡◌, ◌+◌, ◌*◌, ◌≤◌, length};
-ghost use Rattle.refusal.specs.declared.Checked.TheVariants.{Passed};
-ghost use Rattle.refusal.specs.Rows.{check_of};
-ghost use Rattle.statement.specs.Files.{trailer_width};
-ghost use Rattle.statement.specs.Reading.{means_found, trailer_at, trailer_rows, file_rows, version_rows, newer_at, read_rows, summary_in, plainly, read_said, means_found_any, reasons_in, any_rows, any_said};
+ghost use Rattle.std.specs.Prelude.{◌≡◌, Ok, ◌+◌, ◌*◌, ◌≤◌, length};
+ghost use Rattle.refusal.specs.Rows.{check_of, means};
+ghost use Rattle.statement.specs.Files.{version_of, record_width, trailer_width};
+ghost use Rattle.statement.specs.Reading.{trailer_at, trailer_rows, file_rows, version_rows, newer_at, read_rows, summary_in, read_said, version_in, any_rows, any_said};
 
 use crate::looking::check_records;
 use crate::numbers::{from_word, number_at};
-use crate::{
-    Found, FoundAny, RECORDS, Summary, SummaryOfAny, TRAILER, Trailer, version_of, width_of,
-};
-use refusal::{Checked, Refusal};
+use crate::{RECORDS, Summary, SummaryOfAny, TRAILER, Trailer, Version};
+use refusal::Refusal;
 
 // The numbers of the trailer at a place.
+#[tactic(auto, unfolding(crate::specs::Reading::trailer_at))]
 fn trailer_at(bytes: &[u8], place: usize) -> Trailer
     requires { place + trailer_width ≤ length bytes.now }
     ensures { result ≡ trailer_at bytes.now place }
@@ -26,132 +24,120 @@ fn trailer_at(bytes: &[u8], place: usize) -> Trailer
     }
 }
 
-// The first row that holds at a trailer, for records of some width and a version.
-fn check_trailer(width: u64, version: u64, place: u64, trailer: Trailer) -> Checked
-    requires { width ≤ 24 }
-    ensures { result ≡ check_of (trailer_rows width version place trailer) }
+// The first row that holds at a trailer, for records of a version.
+fn check_trailer(version: Version, place: u64, trailer: Trailer) -> Result<(), Refusal>
+    ensures { result ≡ check_of (trailer_rows (record_width version) (version_of version) place trailer) }
 {
-    if trailer.version != version {
-        return Checked::Refused(Refusal::Malformed);
+    if trailer.version != u64::from(version.number()) {
+        return Err(Refusal::Malformed);
     }
     if trailer.zeros != 0 {
-        return Checked::Refused(Refusal::Malformed);
+        return Err(Refusal::Malformed);
     }
     if (RECORDS as u64) < trailer.count {
-        return Checked::Refused(Refusal::Malformed);
+        return Err(Refusal::Malformed);
     }
-    if trailer.distance != width * trailer.count {
-        return Checked::Refused(Refusal::Malformed);
+    if trailer.distance != version.width() as u64 * trailer.count {
+        return Err(Refusal::Malformed);
     }
     if place < trailer.distance {
-        return Checked::Refused(Refusal::Malformed);
+        return Err(Refusal::Malformed);
     }
-    Checked::Passed
+    Ok(())
 }
 
 // The first row that holds at the trailer at a place and the records before it.
-fn check_at(bytes: &[u8], reasons: bool, place: usize) -> Checked
+fn check_at(bytes: &[u8], version: Version, place: usize) -> Result<(), Refusal>
     requires { place + trailer_width ≡ length bytes.now }
-    ensures { result ≡ check_of (file_rows reasons bytes.now place (trailer_at bytes.now place)) }
+    ensures { result ≡ check_of (file_rows version bytes.now place (trailer_at bytes.now place)) }
 {
     let trailer = trailer_at(bytes, place);
-    let width = width_of(reasons) as u64;
-    match check_trailer(width, version_of(reasons) as u64, place as u64, trailer) {
-        Checked::Refused(refusal) => Checked::Refused(refusal),
-        Checked::Passed => check_records(
-            bytes,
-            reasons,
-            place - trailer.distance as usize,
-            trailer.count as usize,
-            trailer.sum,
-        ),
-    }
+    check_trailer(version, place as u64, trailer)?;
+    check_records(
+        bytes,
+        version,
+        place - trailer.distance as usize,
+        trailer.count as usize,
+        trailer.sum,
+    )
 }
 
 // Whether a trailer is of version 2.
 fn is_newer(trailer: Trailer) -> bool
     ensures { result ≡ newer_at trailer }
 {
-    if trailer.version != 2 {
-        return false;
-    }
-    trailer.zeros == 0
+    trailer.version == 2 && trailer.zeros == 0
 }
 
+// Not one with the check of either version below: the rows differ, and what they share is `check_at`.
 // The first row that holds for the bytes.
-fn check_file(bytes: &[u8]) -> Checked
+#[tactic(auto, unfolding(crate::specs::Reading::read_rows, crate::specs::Reading::newer, crate::specs::Reading::version_rows))]
+fn check_file(bytes: &[u8]) -> Result<(), Refusal>
     ensures { result ≡ check_of (read_rows bytes.now) }
 {
     if bytes.len() < TRAILER {
-        return Checked::Refused(Refusal::Malformed);
+        return Err(Refusal::Malformed);
     }
     let place = bytes.len() - TRAILER;
     if is_newer(trailer_at(bytes, place)) {
-        return Checked::Refused(Refusal::Newer);
+        return Err(Refusal::Newer);
     }
-    check_at(bytes, false, place)
+    check_at(bytes, Version::Plain, place)
 }
 
 // What a file says of itself.
-fn summary_in(bytes: &[u8], reasons: bool) -> SummaryOfAny
-    requires { check_of (version_rows reasons bytes.now) ≡ Passed }
-    ensures { result ≡ summary_in reasons bytes.now }
+fn summary_in(bytes: &[u8], version: Version) -> Summary
+    requires { check_of (version_rows version bytes.now) ≡ Ok tt }
+    ensures { result ≡ summary_in version bytes.now }
 {
     let place = bytes.len() - TRAILER;
     let trailer = trailer_at(bytes, place);
-    SummaryOfAny {
-        version: version_of(reasons),
+    Summary {
         first: place - trailer.distance as usize,
         count: trailer.count as usize,
         sum: from_word(trailer.sum),
     }
 }
 
-// The same without the version.
-fn plain(summary: SummaryOfAny) -> Summary
-    ensures { result ≡ plainly summary }
-{
-    Summary {
-        first: summary.first,
-        count: summary.count,
-        sum: summary.sum,
-    }
-}
-
 // The first record's start, the count and the sum of the version 1 file that the bytes end in, or refusal 17 for version 2, or 14.
-pub fn check(bytes: &[u8]) -> Found
-    ensures { means_found result ≡ read_said bytes.now }
+pub fn check(bytes: &[u8]) -> Result<Summary, Refusal>
+    ensures { means result ≡ read_said bytes.now }
 {
-    match check_file(bytes) {
-        Checked::Refused(refusal) => Found::Refused(refusal),
-        Checked::Passed => Found::Value(plain(summary_in(bytes, false))),
-    }
+    check_file(bytes)?;
+    Ok(summary_in(bytes, Version::Plain))
 }
 
-// Whether the last bytes hold version 2.
-fn has_reasons(bytes: &[u8]) -> bool
+// The version that the last bytes hold, and 1 where they hold neither: its rows refuse them.
+fn version_in(bytes: &[u8]) -> Version
     requires { trailer_width ≤ length bytes.now }
-    ensures { result ≡ reasons_in bytes.now }
+    ensures { result ≡ version_in bytes.now }
 {
-    trailer_at(bytes, bytes.len() - TRAILER).version == 2
+    if trailer_at(bytes, bytes.len() - TRAILER).version == 2 {
+        return Version::Reasons;
+    }
+    Version::Plain
 }
 
 // The first row that holds for the bytes, by the rows of the version that they hold.
-fn check_any_file(bytes: &[u8]) -> Checked
+#[tactic(auto, unfolding(crate::specs::Reading::any_rows, crate::specs::Reading::version_rows))]
+fn check_any_file(bytes: &[u8]) -> Result<(), Refusal>
     ensures { result ≡ check_of (any_rows bytes.now) }
 {
     if bytes.len() < TRAILER {
-        return Checked::Refused(Refusal::Malformed);
+        return Err(Refusal::Malformed);
     }
-    check_at(bytes, has_reasons(bytes), bytes.len() - TRAILER)
+    check_at(bytes, version_in(bytes), bytes.len() - TRAILER)
 }
 
+// Both checks stand in the C interface; they share all below `check_at`.
 // The version, the first record's start, the count and the sum of the file of either version that the bytes end in, or refusal 14.
-pub fn check_any(bytes: &[u8]) -> FoundAny
-    ensures { means_found_any result ≡ any_said bytes.now }
+pub fn check_any(bytes: &[u8]) -> Result<SummaryOfAny, Refusal>
+    ensures { means result ≡ any_said bytes.now }
 {
-    match check_any_file(bytes) {
-        Checked::Refused(refusal) => FoundAny::Refused(refusal),
-        Checked::Passed => FoundAny::Value(summary_in(bytes, has_reasons(bytes))),
-    }
+    check_any_file(bytes)?;
+    let version = version_in(bytes);
+    Ok(SummaryOfAny {
+        version: version.number(),
+        summary: summary_in(bytes, version),
+    })
 }

@@ -1,134 +1,87 @@
 // What a run is refused for.
-ghost use Rattle.std.specs.Prelude.{not, ◌||◌, ◌≡◌, eqb};
+ghost use Rattle.std.specs.Prelude.{◌≡◌};
 ghost use Rattle.refusal.specs.Rows.{check_of};
-ghost use Rattle.statement.specs.Writing.{any_over, any_past, run_rows, write_rows, reasons_rows};
+ghost use Rattle.statement.specs.Writing.{any_over, any_past};
+ghost use Rattle.statement.specs.Parts.{uneven_of, far_of, rows_of};
 
-use crate::{PLACE, REASON, RECORDS, TRAILER, width_of};
+use crate::{PLACE, REASON, RECORDS, TRAILER, Version};
 use amount::Amount;
 use currency::Currency;
-use refusal::{Checked, Refusal};
+use refusal::Refusal;
 use whole::magnitude;
+
+// A run of payouts: a place, a coefficient and, in version 2, a reason code for each.
+#[derive(Clone, Copy)]
+pub(crate) struct Run<'a> {
+    pub(crate) currency: Currency,
+    pub(crate) places: &'a [u16],
+    pub(crate) codes: &'a [u16],
+    pub(crate) coefficients: &'a [i64],
+}
 
 // Whether a coefficient is over L.
 fn any_over(coefficients: &[i64]) -> bool
     ensures { result ≡ any_over coefficients.now }
 {
-    let mut i = 0;
-    while i < coefficients.len() {
-        if Amount::L < magnitude(coefficients[i]) {
-            return true;
-        }
-        i += 1;
-    }
-    false
+    coefficients
+        .iter()
+        .any(|coefficient| Amount::L < magnitude(*coefficient))
 }
 
 // Whether a number of a list is over the last.
 fn any_past(last: u16, numbers: &[u16]) -> bool
     ensures { result ≡ any_past last numbers.now }
 {
-    let mut i = 0;
-    while i < numbers.len() {
-        if last < numbers[i] {
-            return true;
+    numbers.iter().any(|number| last < *number)
+}
+
+impl Run<'_> {
+    // Whether the lists are of unequal length.
+    fn is_uneven(self, version: Version) -> bool
+        ensures { result ≡ uneven_of version self.entry.places.now self.entry.codes.now self.entry.coefficients.now }
+    {
+        let count = self.places.len();
+        match version {
+            Version::Plain => count != self.coefficients.len(),
+            Version::Reasons => count != self.coefficients.len() || count != self.codes.len(),
         }
-        i += 1;
     }
-    false
-}
 
-fn differ(one: usize, other: usize) -> bool
-    ensures { result ≡ not (eqb one other) }
-{
-    one != other
-}
+    // Whether a place or a code is over its last.
+    fn is_far(self, version: Version) -> bool
+        ensures { result ≡ far_of version self.entry.places.now self.entry.codes.now }
+    {
+        match version {
+            Version::Plain => any_past(PLACE, self.places),
+            Version::Reasons => any_past(PLACE, self.places) || any_past(REASON, self.codes),
+        }
+    }
 
-fn either(one: bool, other: bool) -> bool
-    ensures { result ≡ one || other }
-{
-    if one { true } else { other }
-}
-
-// Rows 3, 4, 9 and 11 at a run: whether a coefficient is over L, the lists are uneven and one of their numbers is too far, the currency, the
-// count, and the buffer's length with the start in it.
-fn check_run(
-    reasons: bool,
-    over: bool,
-    currency: Currency,
-    uneven: bool,
-    far: bool,
-    count: usize,
-    room: usize,
-    start: usize,
-) -> Checked
-    ensures { result ≡ check_of (run_rows reasons over currency uneven far count room start) }
-{
-    if over {
-        return Checked::Refused(Refusal::Magnitude);
+    // Rows 3, 4, 9 and 11: the first that holds for the run, a buffer's length and the start in it.
+    pub(crate) fn check(self, version: Version, room: usize, start: usize) -> Result<(), Refusal>
+        ensures { result ≡ check_of (rows_of version self.entry.currency self.entry.places.now self.entry.codes.now self.entry.coefficients.now room start) }
+    {
+        if any_over(self.coefficients) {
+            return Err(Refusal::Magnitude);
+        }
+        if Currency::LAST < self.currency.0 {
+            return Err(Refusal::Unknown);
+        }
+        if self.is_uneven(version) {
+            return Err(Refusal::Weights);
+        }
+        if self.is_far(version) {
+            return Err(Refusal::Weights);
+        }
+        if RECORDS < self.places.len() {
+            return Err(Refusal::Room);
+        }
+        if room < start {
+            return Err(Refusal::Room);
+        }
+        if room - start < version.width() * self.places.len() + TRAILER {
+            return Err(Refusal::Room);
+        }
+        Ok(())
     }
-    if Currency::LAST < currency.0 {
-        return Checked::Refused(Refusal::Unknown);
-    }
-    if uneven {
-        return Checked::Refused(Refusal::Weights);
-    }
-    if far {
-        return Checked::Refused(Refusal::Weights);
-    }
-    if RECORDS < count {
-        return Checked::Refused(Refusal::Room);
-    }
-    if room < start {
-        return Checked::Refused(Refusal::Room);
-    }
-    if room - start < width_of(reasons) * count + TRAILER {
-        return Checked::Refused(Refusal::Room);
-    }
-    Checked::Passed
-}
-
-// The first row that holds for what a call takes.
-pub(crate) fn check_plain(
-    currency: Currency,
-    places: &[u16],
-    coefficients: &[i64],
-    room: usize,
-    start: usize,
-) -> Checked
-    ensures { result ≡ check_of (write_rows currency places.now coefficients.now room start) }
-{
-    check_run(
-        false,
-        any_over(coefficients),
-        currency,
-        differ(places.len(), coefficients.len()),
-        any_past(PLACE, places),
-        places.len(),
-        room,
-        start,
-    )
-}
-
-pub(crate) fn check_reasons(
-    currency: Currency,
-    places: &[u16],
-    reasons: &[u16],
-    coefficients: &[i64],
-    room: usize,
-    start: usize,
-) -> Checked
-    ensures { result ≡ check_of (reasons_rows currency places.now reasons.now coefficients.now room start) }
-{
-    let uneven = differ(places.len(), coefficients.len());
-    let far = any_past(PLACE, places);
-    check_run(
-        true,
-        any_over(coefficients),
-        currency,
-        either(uneven, differ(places.len(), reasons.len())),
-        either(far, any_past(REASON, reasons)),
-        places.len(),
-        room,
-        start,
-    )
 }

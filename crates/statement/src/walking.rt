@@ -1,33 +1,32 @@
 // The walk on plain bytes and a place: the record there, and the place behind it. One walk for both versions.
-ghost use Rattle.std.specs.Prelude.{false, ◌≡◌, ◌+◌, ◌≤◌, length};
+ghost use Rattle.std.specs.Prelude.{◌≡◌, ◌+◌, ◌≤◌, length};
+ghost use Rattle.statement.specs.declared.Version.TheVariants.{Plain};
 ghost use Rattle.statement.specs.Files.{record_width};
-ghost use Rattle.statement.specs.Walking.{reasoned_at, payout_of, ended, any_step, place_after, step_at, any_step_at, any_place_after};
+ghost use Rattle.statement.specs.Walking.{payout_at, reasoned_at, ended, any_step, place_after, step_at, any_step_at, any_place_after};
 
 use crate::looking::coefficient_at;
 use crate::numbers::number_at;
-use crate::records::code_bytes;
-use crate::{AnyStep, Payout, Reasoned, Step, TRAILER, width_of};
+use crate::{Payout, Reasoned, TRAILER, Version};
 
-fn reasoned_at(bytes: &[u8], reasons: bool, at: usize) -> Reasoned
-    requires { at + record_width reasons ≤ length bytes.now }
-    ensures { result ≡ reasoned_at reasons bytes.now at }
+fn payout_at(bytes: &[u8], at: usize) -> Payout
+    requires { at + 16 ≤ length bytes.now }
+    ensures { result ≡ payout_at bytes.now at }
 {
-    Reasoned {
+    Payout {
         place: number_at(bytes, at, 2) as u16,
         currency: number_at(bytes, at + 2, 2) as u16,
         coefficient: coefficient_at(bytes, at),
-        reason: number_at(bytes, at + 16, code_bytes(reasons)) as u16,
     }
 }
 
-// The same without its code.
-fn payout_of(reasoned: Reasoned) -> Payout
-    ensures { result ≡ payout_of reasoned }
+// The same with its code.
+fn reasoned_at(bytes: &[u8], version: Version, at: usize) -> Reasoned
+    requires { at + record_width version ≤ length bytes.now }
+    ensures { result ≡ reasoned_at version bytes.now at }
 {
-    Payout {
-        place: reasoned.place,
-        currency: reasoned.currency,
-        coefficient: reasoned.coefficient,
+    Reasoned {
+        payout: payout_at(bytes, at),
+        reason: number_at(bytes, at + 16, version.code_bytes()) as u16,
     }
 }
 
@@ -42,64 +41,63 @@ fn is_ended(width: usize, long: usize, at: usize) -> bool
     long - (width + TRAILER) < at
 }
 
-// The record at a place, or the end.
-fn any_step(bytes: &[u8], reasons: bool, at: usize) -> AnyStep
-    ensures { result ≡ any_step reasons bytes.now at }
+// The record at a place, or none behind the last.
+#[tactic(auto, unfolding(crate::specs::Walking::any_step))]
+fn any_step(bytes: &[u8], version: Version, at: usize) -> Option<Reasoned>
+    ensures { result ≡ any_step version bytes.now at }
 {
-    if is_ended(width_of(reasons), bytes.len(), at) {
-        return AnyStep::End;
+    if is_ended(version.width(), bytes.len(), at) {
+        return None;
     }
-    AnyStep::Next(reasoned_at(bytes, reasons, at))
+    Some(reasoned_at(bytes, version, at))
 }
 
 // The place behind the record at a place; a walk that has ended stays where it is.
-fn any_place(bytes: &[u8], reasons: bool, at: usize) -> usize
-    ensures { result ≡ place_after reasons bytes.now at }
+#[tactic(auto, unfolding(crate::specs::Walking::place_after))]
+fn any_place(bytes: &[u8], version: Version, at: usize) -> usize
+    ensures { result ≡ place_after version bytes.now at }
 {
-    let width = width_of(reasons);
+    let width = version.width();
     if is_ended(width, bytes.len(), at) {
         return at;
     }
     at + width
 }
 
-// The walk over records of version 1.
-pub fn step_at(bytes: &[u8], at: usize) -> Step
+// The walk over records of version 1. The C interface has calls for it beside those for either version.
+#[tactic(auto, unfolding(crate::specs::Walking::step_at))]
+pub fn step_at(bytes: &[u8], at: usize) -> Option<Payout>
     ensures { result ≡ step_at bytes.now at }
 {
-    if is_ended(width_of(false), bytes.len(), at) {
-        return Step::End;
+    if is_ended(Version::Plain.width(), bytes.len(), at) {
+        return None;
     }
-    Step::Next(payout_of(reasoned_at(bytes, false, at)))
+    Some(payout_at(bytes, at))
 }
 
 pub fn place_after(bytes: &[u8], at: usize) -> usize
-    ensures { result ≡ place_after false bytes.now at }
+    ensures { result ≡ place_after Plain bytes.now at }
 {
-    any_place(bytes, false, at)
+    any_place(bytes, Version::Plain, at)
 }
 
 // The walk over records of the version with this number; of any other there are none, and the place stays.
-pub fn any_step_at(bytes: &[u8], version: u16, at: usize) -> AnyStep
+#[tactic(auto, unfolding(crate::specs::Walking::any_step_at))]
+pub fn any_step_at(bytes: &[u8], version: u16, at: usize) -> Option<Reasoned>
     ensures { result ≡ any_step_at bytes.now version at }
 {
-    if version == 1 {
-        return any_step(bytes, false, at);
+    match Version::try_from(version) {
+        Ok(version) => any_step(bytes, version, at),
+        Err(_) => None,
     }
-    if version == 2 {
-        return any_step(bytes, true, at);
-    }
-    AnyStep::End
 }
 
+#[tactic(auto, unfolding(crate::specs::Walking::any_place_after))]
 pub fn any_place_after(bytes: &[u8], version: u16, at: usize) -> usize
     ensures { result ≡ any_place_after bytes.now version at }
 {
-    if version == 1 {
-        return any_place(bytes, false, at);
+    match Version::try_from(version) {
+        Ok(version) => any_place(bytes, version, at),
+        Err(_) => at,
     }
-    if version == 2 {
-        return any_place(bytes, true, at);
-    }
-    at
 }

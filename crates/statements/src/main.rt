@@ -5,7 +5,7 @@ mod outs;
 mod records;
 mod turns;
 
-use console::{Source, end_with, open_first};
+use console::{end_with, open_first};
 use turns::write_new;
 
 fn main(rt: HostRuntime) {
@@ -14,10 +14,10 @@ fn main(rt: HostRuntime) {
         3,
         b"two arguments: the file to read, and a new file to write\n",
     ) {
-        Source::Nowhere(status) => {
+        Err(status) => {
             end_with(&rt, status);
         },
-        Source::From(stream) => {
+        Ok(stream) => {
             end_with(&rt, write_new(&rt, stream));
         },
     }

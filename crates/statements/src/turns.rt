@@ -1,227 +1,184 @@
 // From a quarter's file to the statements of its books, line by line.
-ghost use Rattle.std.specs.Prelude.{◌≤◌};
-
-use crate::outs::{Out, close_out, put_statement};
-use crate::records::{Records, count_paid, no_records, put_paid};
-use amount::Amount;
-use book::{Book, Moved};
-use console::{BUFFER, FAILED, PATH, first_feed, path_text, read_path, refill, say_failed};
+use crate::outs::{Fault, end_file, put_statement};
+use crate::records::Records;
+use book::Book;
+use console::{BUFFER, FAILED, PATH, WELL, first_feed, path_text, read_path, refill, say_failed};
+use currency::Currency;
 use intake::Lead;
-use quarter::{Asked, Next, Opening, Reading, begin, card_of, no_book, read_line};
-use statement::RECORDS;
-use std::fs::File;
+use quarter::{Asked, Call, Next, Opening, Reading, begin, card_of, read_line};
+use std::fs;
+use std::fs::{File, OpenFile};
 use std::io::{Read, Write};
 use std::rt::{Env, Files};
 
-#[derive(Clone, Copy)]
+#[derive(Drop)]
 pub struct Statements {
     pub reading: Reading,
-    // the current book, and whether an accepted opening made it
-    pub book: Book,
-    pub opened: bool,
-    // how many records wait
-    pub count: usize,
-    pub out: Out,
-    pub ended: bool,
+    // the current book, where an accepted opening made it
+    pub book: Option<Book>,
+    pub records: Records,
+    // a statement is written, but for its last byte
+    pub begun: bool,
 }
 
-fn first_turn() -> Statements {
-    let reading = Reading {
-        feed: first_feed(),
-        lead: Lead::Spaces,
-        start: 0,
-        end: 0,
-        unended: false,
-        next: Next::More,
-    };
-    Statements {
-        reading,
-        book: no_book(),
-        opened: false,
-        count: 0,
-        out: Out {
-            begun: false,
-            failed: false,
-        },
-        ended: false,
-    }
-}
-
-// With a statement of the records that wait.
-fn close(
-    rt: &impl Eprint,
-    writer: &mut impl Write,
-    mut at: Statements,
-    records: &Records,
-) -> Statements {
-    let out = at.out;
-    let currency = at.book.currency;
-    at.out = put_statement(rt, writer, out, currency, records, at.count);
-    at.count = 0;
-    at
-}
-
-// With the book ended: one without a payout has an empty statement.
-fn end_book(
-    rt: &impl Eprint,
-    writer: &mut impl Write,
-    at: Statements,
-    records: &Records,
-) -> Statements {
-    if !at.opened {
-        return at;
-    }
-    let mut ended = close(rt, writer, at, records);
-    ended.book = no_book();
-    ended.opened = false;
-    ended
-}
-
-// With the book that a line opens; only an accepted opening is a book.
-fn begin_book(mut at: Statements, line: &[u8]) -> Statements {
+// The book that a line opens; only an accepted opening is a book.
+fn opened(line: &[u8]) -> Option<Book> {
     let begun = begin(line);
-    let opening = begun.opening;
-    let book = begun.book;
-    at.book = book;
-    at.opened = if let Opening::Accepted = opening {
-        true
-    } else {
-        false
-    };
-    at
-}
-
-// With the book on the new card that a line asks for, which closes nothing.
-fn go_on_card(mut at: Statements, line: &[u8]) -> Statements {
-    let book = at.book;
-    let moved = card_of(book, line);
-    let next = moved.book;
-    at.book = next;
-    at
-}
-
-fn move_by(book: Book, refund: bool, amount: Amount) -> Moved {
-    if refund {
-        book.refund(amount)
-    } else {
-        book.post(amount)
+    match begun.opening {
+        Opening::Accepted => Some(begun.book),
+        _ => None,
     }
 }
 
-// With a posting or a refund. The statement is closed before its records would take it over the most.
-fn pay(
-    rt: &impl Eprint,
-    writer: &mut impl Write,
-    at: Statements,
-    refund: bool,
-    amount: Amount,
-    reason: u16,
-    records: &mut Records,
-) -> Statements {
-    let book = at.book;
-    let moved = move_by(book, refund, amount);
-    let payouts = moved.payouts;
-    let next = moved.book;
-    let mut paid = at;
-    if RECORDS - count_paid(payouts) < at.count {
-        paid = close(rt, writer, at, records);
-    }
-    paid.book = next;
-    paid.count = put_paid(records, paid.count, payouts, refund, reason);
-    paid
-}
-
-// With what a line asks for.
-fn take(
-    rt: &impl Eprint,
-    writer: &mut impl Write,
-    at: Statements,
-    asked: Asked,
-    line: &[u8],
-    records: &mut Records,
-) -> Statements {
-    match asked {
-        Asked::Call(refund, amount, reason) => {
-            pay(rt, writer, at, refund, amount, reason, records)
-        },
-        Asked::Open => begin_book(end_book(rt, writer, at, records), line),
-        Asked::Astray => end_book(rt, writer, at, records),
-        Asked::Card => go_on_card(at, line),
-        _ => at,
-    }
-}
-
-// With more bytes read.
-fn read_on(
-    rt: &impl Eprint,
-    reader: &mut impl Read,
-    mut at: Statements,
-    text: &mut [u8],
-) -> Statements {
-    let mut reading = at.reading;
-    let feed = reading.feed;
-    reading.feed = refill(rt, reader, feed, text);
-    at.reading = reading;
-    at
-}
-
-// With the next line taken, more bytes read, or the last book ended.
-fn turn(
-    rt: &impl Eprint,
-    reader: &mut impl Read,
-    writer: &mut impl Write,
-    mut at: Statements,
-    text: &mut [u8],
-    records: &mut Records,
-) -> Statements {
-    let before = at.reading;
-    let feed = before.feed;
-    let lead = before.lead;
-    let reading = read_line(text, feed, lead);
-    let start = reading.start;
-    let end = reading.end;
-    let next = reading.next;
-    at.reading = reading;
-    match next {
-        Next::Line(asked) => take(rt, writer, at, asked, &text[start..end], records),
-        Next::More => read_on(rt, reader, at, text),
-        Next::End => {
-            let mut last = end_book(rt, writer, at, records);
-            last.ended = true;
-            last
-        },
-    }
-}
-
-fn goes_on(at: Statements) -> bool {
-    if at.out.failed {
-        return false;
-    }
-    !at.ended
-}
-
-// Line by line. A proved loop has to end, and nothing says that a file does: the turns are counted down from a number that no run uses up.
-fn run_all(rt: &impl Eprint, reader: &mut impl Read, writer: &mut impl Write) -> Statements {
-    let mut text = [0u8; BUFFER];
-    let mut records = no_records();
-    let mut at = first_turn();
-    let mut turns = u64::MAX;
-    while goes_on(at) {
-        if turns == 0 {
-            return at;
+impl Statements {
+    fn new() -> Statements {
+        let reading = Reading {
+            feed: first_feed(),
+            lead: Lead::Spaces,
+            start: 0,
+            end: 0,
+            unended: false,
+            next: Next::More,
+        };
+        Statements {
+            reading,
+            book: None,
+            records: Records::new(),
+            begun: false,
         }
-        turns -= 1;
-        at = turn(rt, reader, writer, at, &mut text, &mut records);
     }
-    at
+
+    // Writes a statement of the records that wait.
+    fn close(&mut self, writer: &mut impl Write, currency: Currency) -> Result<(), Fault> {
+        put_statement(writer, self.begun, currency, &self.records)?;
+        self.begun = true;
+        self.records.count = 0;
+        Ok(())
+    }
+
+    // Ends the book: one without a payout has an empty statement.
+    fn end_book(&mut self, writer: &mut impl Write) -> Result<(), Fault> {
+        let Some(book) = self.book else {
+            return Ok(());
+        };
+        self.close(writer, book.currency)?;
+        self.book = None;
+        Ok(())
+    }
+
+    // Puts the book on the new card that a line asks for, which closes nothing.
+    fn go_on_card(&mut self, line: &[u8]) {
+        if let Some(book) = self.book {
+            self.book = Some(card_of(book, line).book);
+        }
+    }
+
+    // A posting or a refund. The statement is closed before its records would take it over the most.
+    fn pay(&mut self, writer: &mut impl Write, call: Call) -> Result<(), Fault> {
+        let Some(book) = self.book else {
+            return Ok(());
+        };
+        let moved = if call.refund {
+            book.refund(call.amount)
+        } else {
+            book.post(call.amount)
+        };
+        if !self.records.have_room(&moved.payouts) {
+            self.close(writer, book.currency)?;
+        }
+        self.book = Some(moved.book);
+        self.records
+            .put_paid(&moved.payouts, call.refund, call.reason);
+        Ok(())
+    }
+
+    // What a line asks for.
+    fn take(&mut self, writer: &mut impl Write, asked: Asked, line: &[u8]) -> Result<(), Fault> {
+        match asked {
+            Asked::Call(call) => self.pay(writer, call)?,
+            Asked::Open => {
+                self.end_book(writer)?;
+                self.book = opened(line);
+            },
+            Asked::Astray => self.end_book(writer)?,
+            Asked::Card => self.go_on_card(line),
+            Asked::Nothing | Asked::Unknown | Asked::Refused(_) => {},
+        }
+        Ok(())
+    }
+
+    // The next line is taken, more bytes are read, or the last book is ended; whether it is.
+    fn turn(
+        &mut self,
+        rt: &impl Eprint,
+        reader: &mut impl Read,
+        writer: &mut impl Write,
+        text: &mut [u8],
+    ) -> Result<bool, Fault> {
+        let reading = read_line(text, self.reading.feed, self.reading.lead);
+        self.reading = reading;
+        match reading.next {
+            Next::Line(asked) => self.take(writer, asked, &text[reading.start..reading.end])?,
+            Next::More => self.reading.feed = refill(rt, reader, reading.feed, text),
+            Next::End => self.end_book(writer)?,
+        }
+        Ok(matches!(reading.next, Next::End))
+    }
+
+    // Line by line. A proved loop has to end, and nothing says that a file does: the turns are counted, up to a number that no run reaches.
+    fn run(
+        &mut self,
+        rt: &impl Eprint,
+        reader: &mut impl Read,
+        writer: &mut impl Write,
+    ) -> Result<(), Fault> {
+        let mut text = [0u8; BUFFER];
+        for _ in 0..u64::MAX {
+            if self.turn(rt, reader, writer, &mut text)? {
+                return Ok(());
+            }
+        }
+        Ok(())
+    }
 }
 
-// Writes the statements of what the reader gives to the new file of a path, and answers the status.
+// Writes the statements of what the reader gives, and closes the file.
+fn write_all(
+    rt: &impl Eprint,
+    reader: &mut impl Read,
+    mut file: impl Write + OpenFile + Drop,
+) -> Result<(), Fault> {
+    let mut statements = Statements::new();
+    statements.run(rt, reader, &mut file)?;
+    if statements.reading.feed.failed {
+        return Err(Fault::Unread);
+    }
+    if statements.begun {
+        end_file(&mut file)?;
+    }
+    Ok(())
+}
+
+// Says what there is to be said of a file that isn't written whole, which is removed.
+fn remove(rt: &(impl Files + Eprint), path: &str, fault: Fault) {
+    if let Fault::Unwritten(error) = fault {
+        say_failed(rt, "write", error);
+    }
+    if let Err(error) = fs::remove_file(rt, path) {
+        say_failed(rt, path, error);
+    }
+}
+
+// Writes the statements of what the reader gives to the new file of a path, and answers the status. The file is closed before the status is written,
+// which may have its descriptor's number.
 fn write_to<R: Files + Eprint>(rt: &R, reader: &mut impl Read, path: &str) -> u8 {
     match File::options().write(true).create_new(true).open(rt, path) {
-        Ok(mut file) => {
-            let last = run_all(rt, reader, &mut file);
-            close_out(rt, file, last.out, last.reading.feed.failed, path)
+        Ok(file) => match write_all(rt, reader, file) {
+            Ok(()) => WELL,
+            Err(fault) => {
+                remove(rt, path, fault);
+                FAILED
+            },
         },
         Err(error) => {
             say_failed(rt, path, error);

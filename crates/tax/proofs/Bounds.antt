@@ -13,6 +13,8 @@ use Rattle.whole.proofs.Laws.{magnitude_signed, negative_signed, signed_zero_lem
 use Rattle.rounding.specs.declared.Rule.{Rule}
 use Rattle.rounding.specs.Modes.{rises_by}
 use Rattle.rounding.specs.Leaf.{rest_of, is_odd, raised, rounded, rounded_magnitude}
+use Rattle.rounding.specs.Product.{rounded_product}
+use Rattle.rounding.proofs.Capped.{product_is}
 use Rattle.rounding.proofs.Bounds.{at_divisor, rise_has_rest}
 use Rattle.rounding.proofs.Value.{by_magnitude}
 use Rattle.amount.specs.declared.Amount.{Amount}
@@ -40,6 +42,12 @@ module _ (rule : Rule) (sign : Bool) where
       let twice : m * (r + r) ≤ m * (million + r) = mul-le-mul_left m (omega arith) in
       let doubled : m * (million + r) ≤ 2 * k * (million + r) = mul-le-mul_right (million + r) least in
       covered k (m * r) (million + r) (omega arith) (omega arith)
+
+-- what the leaf gives for a tax that is at most its amount, so that no cap is met
+pub leaf : (rule : Rule) (sign : Bool) (m r d : ℕ) → m ≤ largest → 0 < d → d ≤ 2 * million → r ≤ d
+    → rounded_product rule sign m r d ≡ rounded_magnitude rule sign (m * r) d
+leaf rule sign m r d small some few covers =
+    product_is rule sign m r d (omega arith) (omega arith) some (omega arith) (omega (arith, at_most_all rule sign m r d some covers))
 
 -- the magnitude of a tax
 tax_magnitude : (rule : Rule) (n : ℤ) (r d : ℕ)

@@ -1,6 +1,7 @@
 -- Document 02, Ask 5: "There is never more than one such net, for any mode and sign". The tax put on a net is the tax that comes off its gross
 -- (`undo` of rounding), so the only net that can have a gross is the one that tax from gross leaves; and that one has it exactly where the tax on it
 -- is the tax that came off. Assumes nothing.
+use Rattle.std.specs.Prelude.{Ok}
 use mathlib.Core.Path.{◌≡◌, refl, sym, ap, ◌∙◌}
 use mathlib.Core.Bool.{Bool, true, false}
 use mathlib.Core.List.{List, [], ◌∷◌, ◌++◌}
@@ -8,7 +9,6 @@ use Prim.Native.Nat.{ℕ, zero, suc, ◌+◌, ◌-◌, ◌*◌, ◌<◌, ◌≤�
 use native.Mathlib.Omega.{arith}
 use borrow.Author.Tests.{le-ltb, ltb-false}
 use lib.IntN.{ℤ, pos}
-use Rattle.refusal.specs.declared.Checked.TheVariants.{Passed}
 use Rattle.refusal.specs.Rows.{gives, Row, row, check_of}
 use Rattle.refusal.proofs.Joined.{same_value}
 use Rattle.refusal.proofs.Check.{Clear, clear, passed}
@@ -30,13 +30,13 @@ use Rattle.tax.proofs.NeverOver.{made_from_gross}
 use Rattle.tax.proofs.Value.{net_split, gross_split}
 
 -- by magnitude: the tax put on a net, the tax that comes off a gross, and what it leaves
-abbrev tax_on : (rule : Rule) (sign : Bool) (r m : ℕ) → ℕ
+abbrev pub tax_on : (rule : Rule) (sign : Bool) (r m : ℕ) → ℕ
 tax_on rule sign r m = rounded_magnitude rule sign (m * r) million
 
-abbrev tax_off : (rule : Rule) (r : ℕ) (z : ℤ) → ℕ
+abbrev pub tax_off : (rule : Rule) (r : ℕ) (z : ℤ) → ℕ
 tax_off rule r z = rounded_magnitude rule (negative z) (magnitude_of z * r) (million + r)
 
-abbrev left_of : (rule : Rule) (r : ℕ) (z : ℤ) → ℕ
+abbrev pub left_of : (rule : Rule) (r : ℕ) (z : ℤ) → ℕ
 left_of rule r z = magnitude_of z - tax_off rule r z
 
 -- the tax on what is left is the tax that came off
@@ -164,14 +164,14 @@ module _ (rule : Rule) (r : ℕ) (gross : Amount) (same : Agrees rule r gross) w
       ∙ ap (split_of gross (negative z) n) same
       ∙ sym (gross_split rule gross r)
 
-pass : (rows : List Row) → Clear rows → check_of rows ≡ Passed
+pass : (rows : List Row) → Clear rows → check_of rows ≡ Ok tt
 pass [] none = refl
 pass (row x true ∷ rows) none = let z : ◌≡◌ {A = ℕ} 0 1 = cc in absurd (omega arith)
 pass (row x false ∷ rows) none = pass rows none.1
 
-module _ (rate mode : ℕ) (gross : Amount) (taken : check_of (rows_taken gross rate mode) ≡ Passed) (same : Agrees (rule_of mode) rate gross) where
+module _ (rate mode : ℕ) (gross : Amount) (taken : check_of (rows_taken gross rate mode) ≡ Ok tt) (same : Agrees (rule_of mode) rate gross) where
   -- what is left is within L, at the same scale and in the same currency
-  net_taken : check_of (rows_taken (from_gross (rule_of mode) gross rate).net rate mode) ≡ Passed
+  net_taken : check_of (rows_taken (from_gross (rule_of mode) gross rate).net rate mode) ≡ Ok tt
   unfolding tax_rows
   net_taken =
       let c = gross.coefficient in

@@ -1,35 +1,33 @@
 -- A price by sign and magnitudes, as the program computes it: what the rule and the rows say of it is what document 01 says of the
 -- amount. Assumes nothing.
+use Rattle.std.specs.Prelude.{Ok}
 use mathlib.Core.Path.{◌≡◌, refl, sym, ◌∙◌, ap, ap₂}
 use mathlib.Core.Bool.{Bool, true, false}
-use mathlib.Core.List.{List, [], ◌∷◌}
+use mathlib.Core.List.{[], ◌∷◌}
 use Prim.Native.Nat.{ℕ, ◌+◌, ◌*◌, ◌-◌, ◌<◌, ◌≤◌}
 use native.Mathlib.Omega.{arith}
-use borrow.Author.Tests.{lt-ltb, le-ltb, ltb-false}
+use borrow.Author.Tests.{lt-ltb, le-ltb}
 use lib.IntN.{ℤ, pos, ◌+ℤ◌, ◌-ℤ◌, ◌*ℤ◌, neg_ℤ-+ℤ, +ℤ-neg_ℤ_cancel}
 use Rattle.refusal.specs.declared.Refusal.{Refusal}
 use Rattle.refusal.specs.declared.Refusal.TheVariants.{Limit}
 use Rattle.refusal.specs.Number.{number_of, blamed_of}
-use Rattle.refusal.specs.declared.Checked.TheVariants.{Passed}
-use Rattle.refusal.specs.Rows.{Said, gives, refuses, Row, row, first_row, check_of}
-use Rattle.refusal.proofs.Check.{passed, clear}
+use Rattle.refusal.specs.Rows.{Said, gives, refuses, row, first_row, check_of}
+use Rattle.refusal.proofs.Check.{passed}
 use Rattle.whole.specs.Whole.{negative, magnitude_of, signed_of}
 use Rattle.whole.proofs.Laws.{sign_and_magnitude, magnitude_signed, signed_opposite}
 use Rattle.rounding.specs.declared.Rule.{Rule}
-use Rattle.rounding.specs.declared.Choice.{Choice}
-use Rattle.rounding.specs.declared.Choice.TheVariants.{Chosen, Refused}
 use Rattle.rounding.specs.Modes.{rule_of}
 use Rattle.rounding.specs.Leaf.{rounded, rounded_magnitude}
-use Rattle.rounding.specs.Product.{rounded_product}
-use Rattle.rounding.proofs.Capped.{product_is}
 use Rattle.rounding.proofs.Value.{by_magnitude}
 use Rattle.amount.specs.declared.Amount.{Amount}
 use Rattle.amount.specs.Amounts.{largest, over_l}
 use Rattle.tax.specs.declared.Split.{Split}
-use Rattle.tax.specs.Tax.{million, tax_rows, taken_rows, rows_taken, like, from_net, from_gross, made, split_said, from_net_said, from_gross_said}
-use Rattle.tax.specs.Parts.{means_choice, rule_said, split_of}
+use Rattle.tax.specs.Tax.{million, rows_taken, like, from_net, from_gross, made, split_said, from_net_said, from_gross_said}
+use Rattle.tax.specs.declared.accepted.Accepted.{Accepted}
+use Rattle.tax.specs.NetFor.{Taken}
+use Rattle.tax.specs.Parts.{Given, split_of}
 use Rattle.tax.proofs.Bounds.{at_most_all}
-use Rattle.refusal.proofs.Joined.{same_value, let_pass, same_refused}
+use Rattle.refusal.proofs.Joined.{let_pass, same_refused}
 
 -- numbers of one sign: the sum's magnitude is the sum, and what is left has the magnitude that is left
 signed_sum : (sign : Bool) (m n : ℕ) → signed_of sign m +ℤ signed_of sign n ≡ signed_of sign (m + n)
@@ -71,6 +69,9 @@ module _ (a : Amount) (sign : Bool) (net tax : ℕ) where
         le-ltb largest tax (omega arith),
       )
 
+-- what the one test of a price needs
+pub ruleset price_steps = (made_refused, made_given, same_parts)
+
 -- a price taken apart, by the amount's sign and magnitude and the tax's magnitude
 module _ (rule : Rule) (a : Amount) (r : ℕ) where
   abbrev tax_by : ℕ → ℕ
@@ -95,89 +96,25 @@ module _ (rule : Rule) (a : Amount) (r : ℕ) where
       same_parts a (ap (like a) (ap₂ ◌-ℤ◌ is tax ∙ signed_left (negative z) (magnitude_of z) t most)) (ap (like a) tax)
       (ap (like a) (is ∙ ap (signed_of (negative z)) (omega arith)))
 
--- the rows at what a call takes let the rule pass, or are its refusal
-module _ (a : Amount) (rate mode : ℕ) (m : ℕ) (magnitudes : m ≡ magnitude_of a.coefficient) where
-  abbrev rows : List Row
-  rows = taken_rows a.scale m a.currency rate mode
+-- a call that none of the rows refuses
+module _ {a : Amount} {rate mode : ℕ} {x : Accepted} (call : Given a rate mode x) where
+  pub rows_passed : check_of (rows_taken a rate mode) ≡ Ok tt
+  rows_passed = let_pass a a (rows_taken a rate mode) call.taken
 
-  module _ (split : Rule → Amount → ℕ → Split) where
-    pub said_refused : (choice : Choice) (r : Refusal) → means_choice choice ≡ rule_said a.scale m a.currency rate mode → choice ≡ Refused r
-        → split_said split a rate mode ≡ refuses (number_of r) (blamed_of r)
-    unfolding rule_said split_said
-    said_refused choice r e refusal =
-        rw (sym magnitudes)
-        (same_refused (rule_of mode) (made (split (rule_of mode) a rate)) (number_of r) (blamed_of r) rows (sym e ∙ ap means_choice refusal))
+  said : (split : Rule → Amount → ℕ → Split) → made (split (rule_of mode) a rate) ≡ split_said split a rate mode
+  unfolding split_said
+  said split = sym (passed (made (split (rule_of mode) a rate)) (rows_taken a rate mode) rows_passed)
 
-    said_chosen : (rule : Rule) → rule_said a.scale m a.currency rate mode ≡ gives rule → split_said split a rate mode ≡ made (split rule a rate)
-    unfolding rule_said split_said
-    said_chosen rule e =
-        rw (sym magnitudes)
-        (passed (made (split (rule_of mode) a rate)) rows (let_pass (rule_of mode) rule rows e)
-        ∙ ap (λ (x : Rule). made (split x a rate)) (same_value (rule_of mode) rule rows e))
+  -- by the tax's magnitude
+  pub net_said : (t : ℕ) → t ≡ rounded_magnitude x.rule x.negative (x.m * x.rate) million → made (split_of a x.negative x.m t) ≡ from_net_said a rate mode
+  net_said t tax = rw (tax, call.rules, call.signs, call.magnitudes, call.rates) (ap made (sym (net_split (rule_of mode) a rate)) ∙ said from_net)
 
-  within : (rule : Rule) → rule_said a.scale m a.currency rate mode ≡ gives rule → (m ≤ largest) × (rate ≤ million)
-  unfolding rule_said tax_rows
-  within rule e =
-      let none = clear rows (let_pass (rule_of mode) rule rows e) in (ltb-false largest m none.1.1.0, ltb-false million rate none.1.1.1.1.0)
+  pub gross_said : (t : ℕ) → t ≡ rounded_magnitude x.rule x.negative (x.m * x.rate) (million + x.rate) → made (split_of a x.negative (x.m - t) t) ≡ from_gross_said a rate mode
+  gross_said t tax = rw (tax, call.rules, call.signs, call.magnitudes, call.rates) (ap made (sym (gross_split (rule_of mode) a rate)) ∙ said from_gross)
 
--- a call that has its rule, as the program holds it
-pub record Call (a : Amount) (rate mode : ℕ) (sign : Bool) (m : ℕ) (rule : Rule) : Type 0 where
-  pub signs : sign ≡ negative a.coefficient
-  pub magnitudes : m ≡ magnitude_of a.coefficient
-  pub choice : Choice
-  pub said : means_choice choice ≡ rule_said a.scale m a.currency rate mode
-  pub chosen : choice ≡ Chosen rule
-
-module _ {a : Amount} {rate mode : ℕ} {sign : Bool} {m : ℕ} {rule : Rule} (call : Call a rate mode sign m rule) where
-  has_rule : rule_said a.scale m a.currency rate mode ≡ gives rule
-  has_rule = sym call.said ∙ ap means_choice call.chosen
-
-  -- no row holds for what it takes, and its rule is the mode's
-  pub rows_passed : check_of (rows_taken a rate mode) ≡ Passed
-  unfolding rule_said
-  rows_passed = rw (sym call.magnitudes) (let_pass (rule_of mode) rule (taken_rows a.scale m a.currency rate mode) has_rule)
-
-  pub rule_is : rule_of mode ≡ rule
-  unfolding rule_said
-  rule_is = same_value (rule_of mode) rule (taken_rows a.scale m a.currency rate mode) has_rule
-
-  pub limits : (m ≤ largest) × (rate ≤ million)
-  limits = within a rate mode m call.magnitudes rule has_rule
-
-  -- what the leaf gives for the amount or a part of it: the tax is at most that, so no cap is met
-  pub leaf_of : (x : ℕ) → x ≤ m → (d : ℕ) → 0 < d → d ≤ 2 * million → rate ≤ d → rounded_product rule sign x rate d ≡ rounded_magnitude rule sign (x * rate) d
-  leaf_of x part d some few covers =
-      product_is rule sign x rate d (omega (arith, limits.0)) (omega arith) some (omega arith)
-      (omega (arith, limits.0, at_most_all rule sign x rate d some covers))
-
-  pub leaf : (d : ℕ) → 0 < d → d ≤ 2 * million → rate ≤ d → rounded_product rule sign m rate d ≡ rounded_magnitude rule sign (m * rate) d
-  leaf = leaf_of m (omega arith)
-
-  pub net_leaf : rounded_product rule sign m rate million ≡ rounded_magnitude rule sign (m * rate) million
-  net_leaf = leaf million (omega arith) (omega arith) limits.1
-
-  pub gross_leaf : rounded_product rule sign m rate (million + rate) ≡ rounded_magnitude rule sign (m * rate) (million + rate)
-  gross_leaf = leaf (million + rate) (omega arith) (omega (arith, limits.1)) (omega arith)
-
-  -- from net, where t is the tax's magnitude
-  module _ (t : ℕ) (tax : t ≡ rounded_magnitude rule sign (m * rate) million) where
-    pub net_limits : (m ≤ largest) × (t ≤ largest)
-    net_limits = (limits.0, omega (arith, tax, limits.0, at_most_all rule sign m rate million (omega arith) limits.1))
-
-    pub net_said : made (split_of a sign m t) ≡ from_net_said a rate mode
-    net_said =
-        rw (tax, call.signs, call.magnitudes)
-        (sym (said_chosen a rate mode m call.magnitudes from_net rule has_rule ∙ ap made (net_split rule a rate)))
-
-  -- from gross
-  module _ (t : ℕ) (tax : t ≡ rounded_magnitude rule sign (m * rate) (million + rate)) where
-    pub gross_tax : t ≤ m
-    gross_tax = rw tax (at_most_all rule sign m rate (million + rate) (omega arith) (omega arith))
-
-    pub gross_limits : (m - t ≤ largest) × (t ≤ largest)
-    gross_limits = (omega (arith, limits.0), omega (arith, limits.0, gross_tax))
-
-    pub gross_said : made (split_of a sign (m - t) t) ≡ from_gross_said a rate mode
-    gross_said =
-        rw (tax, call.signs, call.magnitudes)
-        (sym (said_chosen a rate mode m call.magnitudes from_gross rule has_rule ∙ ap made (gross_split rule a rate)))
+-- and one that a row does
+pub said_refused : (split : Rule → Amount → ℕ → Split) (a : Amount) (rate mode : ℕ) (r : Refusal) → Taken a rate mode (refuses (number_of r) (blamed_of r))
+    → refuses (number_of r) (blamed_of r) ≡ split_said split a rate mode
+unfolding split_said
+said_refused split a rate mode r e =
+    sym (same_refused a (made (split (rule_of mode) a rate)) (number_of r) (blamed_of r) (rows_taken a rate mode) e)

@@ -1,25 +1,27 @@
 -- What the functions below the three calls hand up. No public promise cites it. Assumes nothing.
-use Rattle.std.specs.Prelude.{Bool, ℕ, ◌+◌}
+use Rattle.std.specs.Prelude.{◌≡◌, Bool, ℕ, ◌+◌, Result, Ok, Err}
 use Rattle.refusal.specs.Number.{number_of, blamed_of}
-use Rattle.refusal.specs.Rows.{Said, gives, refuses, first_row}
-use Rattle.whole.specs.Whole.{signed_of}
-use Rattle.rounding.specs.declared.Rule.{Rule}
-use Rattle.rounding.specs.declared.Choice.{Choice}
-use Rattle.rounding.specs.declared.Choice.TheVariants.{Chosen, Refused}
+use Rattle.refusal.specs.Rows.{gives, refuses}
+use Rattle.whole.specs.Whole.{negative, magnitude_of, signed_of}
 use Rattle.rounding.specs.Modes.{rule_of}
-use Rattle.currency.specs.declared.Currency.{Currency}
 use Rattle.amount.specs.declared.Amount.{Amount}
 use Rattle.tax.specs.declared.Split.{Split}
-use Rattle.tax.specs.Tax.{taken_rows, like}
+use Rattle.tax.specs.declared.accepted.Accepted.{Accepted}
+use Rattle.refusal.specs.declared.Refusal.{Refusal}
+use Rattle.tax.specs.Tax.{like}
+use Rattle.tax.specs.NetFor.{Taken}
 
--- what each case of a choice says
-abbrev pub means_choice : Choice → Said Rule
-means_choice (Chosen rule) = gives rule
-means_choice (Refused r) = refuses (number_of r) (blamed_of r)
+-- a call that none of the rows 1 to 6 refuses, as the program holds it
+pub record Given (a : Amount) (rate mode : ℕ) (x : Accepted) : Type 0 where
+  pub taken : Taken a rate mode (gives a)
+  pub rules : x.rule ≡ rule_of mode
+  pub signs : x.negative ≡ negative a.coefficient
+  pub magnitudes : x.m ≡ magnitude_of a.coefficient
+  pub rates : x.rate ≡ rate
 
--- the mode's rule behind the rows at what a call takes
-unfoldable pub rule_said : (scale m : ℕ) → Currency → (rate mode : ℕ) → Said Rule
-rule_said scale m currency rate mode = first_row (taken_rows scale m currency rate mode) (gives (rule_of mode))
+abbrev pub Accepts : Amount → (rate mode : ℕ) → Result Accepted Refusal → Type 0
+Accepts a rate mode (Ok x) = Given a rate mode x
+Accepts a rate mode (Err r) = Taken a rate mode (refuses (number_of r) (blamed_of r))
 
 -- a price like an amount, by its sign and the magnitudes of net and tax
 unfoldable pub split_of : Amount → (negative : Bool) (net tax : ℕ) → Split

@@ -1,7 +1,6 @@
 -- Document 01, "Tax in and out of a price". Cited by `tax_from_net`, `tax_from_gross` and `net_for_gross`. Assumes nothing.
 use Rattle.std.specs.Prelude.{List, [], ◌∷◌, ◌++◌, ℕ, ◌+◌, ℤ, pos, ◌+ℤ◌, ◌-ℤ◌, ◌*ℤ◌}
-use Rattle.refusal.specs.Number.{number_of, blamed_of}
-use Rattle.refusal.specs.Rows.{Said, gives, refuses, Row, row, first_row, rate_rows}
+use Rattle.refusal.specs.Rows.{Said, gives, Row, row, first_row, rate_rows}
 use Rattle.refusal.specs.declared.Refusal.TheVariants.{Mode, Limit}
 use Rattle.whole.specs.Whole.{magnitude_of}
 use Rattle.rounding.specs.declared.Rule.{Rule}
@@ -11,13 +10,6 @@ use Rattle.currency.specs.declared.Currency.{Currency}
 use Rattle.amount.specs.declared.Amount.{Amount}
 use Rattle.amount.specs.Amounts.{over_l, amount_rows}
 use Rattle.tax.specs.declared.Split.{Split}
-use Rattle.tax.specs.declared.Taxed.{Taxed}
-use Rattle.tax.specs.declared.Taxed.TheVariants.{Value, Refused}
-
--- what each case of the answer says
-abbrev pub means_tax : Taxed → Said Split
-means_tax (Value s) = gives s
-means_tax (Refused r) = refuses (number_of r) (blamed_of r)
 
 -- "Rate r: 0 to 1,000,000 parts per million"
 abbrev pub million : ℕ

@@ -4,6 +4,7 @@
 use amount::Amount;
 use refusal::Refusal;
 
+mod accepted;
 mod price;
 
 // A price taken apart: gross is net and tax together.
@@ -12,12 +13,6 @@ pub struct Split {
     pub net: Amount,
     pub tax: Amount,
     pub gross: Amount,
-}
-
-#[derive(Clone, Copy)]
-pub enum Taxed {
-    Value(Split),
-    Refused(Refusal),
 }
 
 pub use price::{net_for_gross, tax_from_gross, tax_from_net};

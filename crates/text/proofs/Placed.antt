@@ -1,5 +1,6 @@
 -- What the writer puts into the buffer, piece by piece, is the text in front of it: a piece behind a piece is both at the first's place, and the digits behind the point are those of
 -- the power of ten and the rest together, with the point in the place of its 1. Assumes nothing.
+use Rattle.std.specs.Prelude.{Ok, Err, Result}
 use mathlib.Core.Path.{◌≡◌, refl, sym, ◌∙◌, ap, ap₂}
 use mathlib.Core.Bool.{Bool, false}
 use mathlib.Core.List.{List, [], ◌∷◌, ◌++◌, append_assoc}
@@ -9,7 +10,6 @@ use native.Mathlib.Omega.{arith}
 use borrow.Author.Tests.{le-ltb, lt-ltb}
 use lib.ListN.{length, take, drop, set, length-append, take-append-drop}
 use lib.Seq.{length-take-le, take_at, drop-append-add, drop-drop, set_at}
-use Rattle.refusal.specs.declared.Checked.TheVariants.{Passed, Refused}
 use Rattle.refusal.specs.declared.Refusal.TheVariants.{Room}
 use Rattle.refusal.specs.declared.Refusal.{Refusal}
 use Rattle.refusal.specs.Number.{number_of, blamed_of}
@@ -19,7 +19,6 @@ use Rattle.whole.specs.Whole.{magnitude_of}
 use Rattle.lines.specs.Texts.{decimal, text_of, put_at, place_behind}
 use Rattle.lines.proofs.Fills.{one_digit, more_digits, put, behind}
 use Rattle.lines.proofs.Puts.{put_length}
-use Rattle.text.specs.declared.Written.{Written}
 use Rattle.text.specs.Grammar.{minus, pointed}
 use Rattle.amount.specs.declared.Amount.{Amount}
 use Rattle.amount.specs.Amounts.{amount_rows}
@@ -146,7 +145,7 @@ pieces out sign m scale room =
 
 -- what is answered with room, and without
 module _ (text out : List ℕ) where
-  pub written : length text ≤ length out → (r : Written) (after : List ℕ) → r ≡ record { outcome = Passed; length = length text } → after ≡ put_at out 0 text
+  pub written : length text ≤ length out → (r : Result ℕ Refusal) (after : List ℕ) → r ≡ Ok (length text) → after ≡ put_at out 0 text
       → Writes text (room_said text (length out)) out r after
   unfolding buffer_after
   written room r after e put-there =
@@ -155,15 +154,14 @@ module _ (text out : List ℕ) where
       rw (said, e)
       (record {
         answer = refl;
-        reported = refl;
         left = put-there ∙ put out 0 text (omega arith) ∙ ap (λ (n : ℕ). text ++ drop n out) k;
       })
 
-  pub not_written : length out < length text → (r : Written) → r ≡ record { outcome = Refused Room; length = 0 } → Writes text (room_said text (length out)) out r out
+  pub not_written : length out < length text → (r : Result ℕ Refusal) → r ≡ Err Room → Writes text (room_said text (length out)) out r out
   unfolding buffer_after
   not_written short r e =
       let said : room_said text (length out) ≡ refuses 11 0 = rw (lt-ltb (length out) (length text) short) in
-      rw (said, e) (record { answer = refl; reported = refl; left = refl })
+      rw (said, e) (record { answer = refl; left = refl })
 
 -- the buffer after each piece
 module _
@@ -201,14 +199,14 @@ module _ (a : Amount) (out : List ℕ) where
   abbrev front : List Row
   front = amount_rows a.scale (magnitude_of a.coefficient) a.currency
 
-  pub passed_said : check_of front ≡ Passed → write_said a (length out) ≡ room_said (amount_text a) (length out)
+  pub passed_said : check_of front ≡ Ok tt → write_said a (length out) ≡ room_said (amount_text a) (length out)
   unfolding write_said
   passed_said e =
       rows_behind (gives (length (amount_text a))) front (room_rows (amount_text a) (length out)) ∙ passed (room_said (amount_text a) (length out)) front e
 
-  pub refused_writes : (r : Refusal) → check_of front ≡ Refused r → Writes (amount_text a) (write_said a (length out)) out (record { outcome = Refused r; length = 0 }) out
+  pub refused_writes : (r : Refusal) → check_of front ≡ Err r → Writes (amount_text a) (write_said a (length out)) out (Err r) out
   unfolding write_said buffer_after
   refused_writes r e =
       let said : write_said a (length out) ≡ refuses (number_of r) (blamed_of r) =
       rows_behind (gives (length (amount_text a))) front (room_rows (amount_text a) (length out)) ∙ refused (room_said (amount_text a) (length out)) front r e in
-      rw said (record { answer = refl; reported = refl; left = refl })
+      rw said (record { answer = refl; left = refl })

@@ -1,13 +1,13 @@
 -- Document 02, Ask 1, writing: the one text of an amount; "The writer fills the front of a lent buffer, reports the length, leaves the rest alone, and
 -- gives 11 if there isn't room." Cited by `write`. Assumes nothing.
-use Rattle.std.specs.Prelude.{◌≡◌, Bool, List, [], ◌∷◌, ◌++◌, ℕ, zero, suc, ◌+◌, ◌/◌, ◌%◌, ◌^◌, ltb, length, drop}
-use Rattle.refusal.specs.Rows.{Said, gives, refuses, Row, row, first_row, means_outcome}
+use Rattle.std.specs.Prelude.{◌≡◌, Bool, List, [], ◌∷◌, ◌++◌, ℕ, zero, suc, ◌+◌, ◌/◌, ◌%◌, ◌^◌, ltb, length, drop, Result}
+use Rattle.refusal.specs.Rows.{Said, gives, refuses, Row, row, first_row, means}
+use Rattle.refusal.specs.declared.Refusal.{Refusal}
 use Rattle.refusal.specs.declared.Refusal.TheVariants.{Room}
 use Rattle.whole.specs.Whole.{negative, magnitude_of}
 use Rattle.lines.specs.Texts.{decimal}
 use Rattle.amount.specs.declared.Amount.{Amount}
 use Rattle.amount.specs.Amounts.{amount_rows}
-use Rattle.text.specs.declared.Written.{Written}
 use Rattle.text.specs.Grammar.{minus, pointed}
 
 -- the last so many digits of a number
@@ -33,20 +33,14 @@ write_rows a room = amount_rows a.scale (magnitude_of a.coefficient) a.currency 
 unfoldable pub write_said : Amount → (room : ℕ) → Said ℕ
 write_said a room = first_row (write_rows a room) (gives (length (text_of a)))
 
--- the length that is reported: 0 where the call is refused
-abbrev pub length_said : Said ℕ → ℕ
-length_said (gives n) = n
-length_said (refuses number blamed) = 0
-
 -- the buffer afterwards: the text in front, and the rest as it was; all of it where the call is refused
 unfoldable pub buffer_after : (text : List ℕ) → Said ℕ → List ℕ → List ℕ
 buffer_after text (gives n) out = text ++ drop n out
 buffer_after text (refuses number blamed) out = out
 
 -- what `write` answers, and the buffer afterwards
-pub record Writes (text : List ℕ) (said : Said ℕ) (out : List ℕ) (r : Written) (after : List ℕ) : Type 0 where
-  pub answer : means_outcome r.outcome r.length ≡ said
-  pub reported : r.length ≡ length_said said
+pub record Writes (text : List ℕ) (said : Said ℕ) (out : List ℕ) (r : Result ℕ Refusal) (after : List ℕ) : Type 0 where
+  pub answer : means r ≡ said
   pub left : after ≡ buffer_after text said out
 
 -- what a text's answer is where its amount was let pass

@@ -11,25 +11,18 @@ fn has_code(line: Line, a: u8, b: u8, c: u8) -> bool
     ensures { result ≡ has_code a b c line }
 {
     let code = line.code;
-    if code[0] != a {
-        return false;
-    }
-    if code[1] != b {
-        return false;
-    }
-    code[2] == c
+    code[0] == a && code[1] == b && code[2] == c
 }
 
+// No Option: the number 255 is the promise `currency_of`, which C has too, and every call refuses it with 4.
 // The number of the currency with these letters, and 255 where the table has none.
 fn by_letters(a: u8, b: u8, c: u8) -> u8
     ensures { result ≡ number_of a b c }
 {
-    let mut i: u8 = 0;
-    while i <= Currency::LAST {
+    for i in 0..=Currency::LAST {
         if has_code(line_of(Currency(i)), a, b, c) {
             return i;
         }
-        i += 1;
     }
     NONE
 }

@@ -1,11 +1,11 @@
 // An amount read from its text.
 ghost use Rattle.std.specs.Prelude.{◌≡◌, false, ◌^◌, ◌<◌, ◌≤◌, length};
+ghost use Rattle.refusal.specs.Rows.{means};
 ghost use Rattle.currency.specs.Table.{unknown};
-ghost use Rattle.amount.specs.Amounts.{means_amount};
 ghost use Rattle.text.specs.Read.{start_in, digits_end, scale_at, bad_whole, bad_fraction, bad_shape, read_said, made_said};
 ghost use Rattle.text.specs.Scan.{most_short, bad_point, rest_said, Scanned};
 
-use amount::{Amount, Answer};
+use amount::Amount;
 use currency::Currency;
 use refusal::Refusal;
 use whole::signed;
@@ -36,18 +36,12 @@ fn start_of(bytes: &[u8]) -> usize
 fn digits_end(bytes: &[u8], at: usize) -> usize
     ensures { result ≡ digits_end bytes.now at }
 {
-    let mut i = at;
-    while i < bytes.len() {
-        let byte = bytes[i];
-        if byte < 48 {
+    for i in at..bytes.len() {
+        if !bytes[i].is_ascii_digit() {
             return i;
         }
-        if 57 < byte {
-            return i;
-        }
-        i += 1;
     }
-    i
+    at.max(bytes.len())
 }
 
 // No digit before the point, or a 0 before another.
@@ -117,18 +111,18 @@ fn scale_of(count: usize, end: usize) -> u8
 }
 
 // The amount, or refusal 14 for a minus on zero, or 13 over L.
-fn amount_of(currency: Currency, negative: bool, scale: u8, m: u64) -> Answer
-    ensures { means_amount result ≡ made_said currency negative scale m }
+fn amount_of(currency: Currency, negative: bool, scale: u8, m: u64) -> Result<Amount, Refusal>
+    ensures { means result ≡ made_said currency negative scale m }
 {
     if m == 0 {
         if negative {
-            return Answer::Refused(Refusal::Malformed);
+            return Err(Refusal::Malformed);
         }
     }
     if Amount::L < m {
-        return Answer::Refused(Refusal::Limit);
+        return Err(Refusal::Limit);
     }
-    Answer::Value(Amount {
+    Ok(Amount {
         currency: currency,
         scale: scale,
         coefficient: signed(negative, m),
@@ -140,74 +134,78 @@ fn scan(bytes: &[u8], at: usize, before: u64) -> Counted
     requires { (at ≤ length bytes.now) × (length bytes.now ≤ most_short) × (before < 10 ^ at) }
     ensures { Scanned bytes.now at before result.end result.number }
 {
-    let mut i = at;
     let mut number = before;
-    while i < bytes.len() {
+    for i in at..bytes.len() {
         let next = bytes[i];
-        if next < 48 {
+        if !next.is_ascii_digit() {
             return Counted { end: i, number };
         }
-        if 57 < next {
-            return Counted { end: i, number };
-        }
-        number = number * 10 + (next - 48) as u64;
-        i += 1;
+        number = number * 10 + (next - b'0') as u64;
     }
-    Counted { end: i, number }
+    Counted {
+        end: bytes.len(),
+        number,
+    }
 }
 
 // What follows the digits before the point, which end at a place and make a number.
-fn read_rest(currency: Currency, negative: bool, bytes: &[u8], end: usize, number: u64) -> Answer
+fn read_rest(
+    currency: Currency,
+    negative: bool,
+    bytes: &[u8],
+    end: usize,
+    number: u64,
+) -> Result<Amount, Refusal>
     requires { (end ≤ length bytes.now) × (length bytes.now ≤ most_short) × (number < 10 ^ end) }
-    ensures { means_amount result ≡ rest_said currency negative bytes.now end number }
+    ensures { means result ≡ rest_said currency negative bytes.now end number }
 {
     if bytes.len() <= end {
         return amount_of(currency, negative, 0, number);
     }
     if bad_point(bytes, end) {
-        return Answer::Refused(Refusal::Malformed);
+        return Err(Refusal::Malformed);
     }
     let fraction = scan(bytes, end + 1, number);
     if fraction.end < bytes.len() {
-        return Answer::Refused(Refusal::Malformed);
+        return Err(Refusal::Malformed);
     }
     let scale = scale_of(bytes.len(), end);
     amount_of(currency, negative, scale, fraction.number)
 }
 
 // In one pass: each digit is tested and counts at once.
-fn read_short(currency: Currency, bytes: &[u8]) -> Answer
+fn read_short(currency: Currency, bytes: &[u8]) -> Result<Amount, Refusal>
     requires { (unknown currency ≡ false) × (length bytes.now ≤ most_short) }
-    ensures { means_amount result ≡ read_said currency bytes.now }
+    ensures { means result ≡ read_said currency bytes.now }
 {
     let start = start_of(bytes);
     let whole = scan(bytes, start, 0);
     let end = whole.end;
     if bad_whole(bytes, start, end) {
-        return Answer::Refused(Refusal::Malformed);
+        return Err(Refusal::Malformed);
     }
     read_rest(currency, 0 < start, bytes, end, whole.number)
 }
 
 // A text of a good shape that is longer is over L.
-fn read_long(currency: Currency, bytes: &[u8]) -> Answer
+fn read_long(currency: Currency, bytes: &[u8]) -> Result<Amount, Refusal>
     requires { (unknown currency ≡ false) × (most_short < length bytes.now) }
-    ensures { means_amount result ≡ read_said currency bytes.now }
+    ensures { means result ≡ read_said currency bytes.now }
 {
     let start = start_of(bytes);
     let end = digits_end(bytes, start);
     if bad_shape(bytes, start, end) {
-        return Answer::Refused(Refusal::Malformed);
+        return Err(Refusal::Malformed);
     }
-    Answer::Refused(Refusal::Limit)
+    Err(Refusal::Limit)
 }
 
 // The amount that a text of a currency is: its digits after the point are its scale; or the refusal 4, 14 or 13.
-pub fn read(currency: Currency, bytes: &[u8]) -> Answer
-    ensures { means_amount result ≡ read_said currency bytes.now }
+pub fn read(currency: Currency, bytes: &[u8]) -> Result<Amount, Refusal>
+    ensures { means result ≡ read_said currency bytes.now }
 {
     if Currency::LAST < currency.0 {
-        return Answer::Refused(Refusal::Unknown);
+        return Err(Refusal::Unknown);
     }
     if SHORT < bytes.len() {
         return read_long(currency, bytes);

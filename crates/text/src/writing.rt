@@ -4,11 +4,10 @@ ghost use Rattle.lines.specs.Texts.{put_at, place_behind};
 ghost use Rattle.text.specs.Grammar.{minus, pointed};
 ghost use Rattle.text.specs.Written.{last_digits, spelled, text_of, room_said, write_said, Writes};
 
-use crate::Written;
 use amount::{Amount, check_one};
 use currency::power_of_ten;
 use lines::{places, put_bytes, put_number};
-use refusal::{Checked, Refusal};
+use refusal::Refusal;
 use whole::{is_negative, magnitude};
 
 // How many bytes the text of a magnitude has.
@@ -57,35 +56,24 @@ pub(crate) fn put(out: &mut [u8], negative: bool, m: u64, scale: u8)
 }
 
 // The same, or refusal 11 where there is no room.
-fn write_text(negative: bool, m: u64, scale: u8, out: &mut [u8]) -> Written
+fn write_text(negative: bool, m: u64, scale: u8, out: &mut [u8]) -> Result<usize, Refusal>
     requires { scale ≤ 6 }
     ensures { Writes (spelled negative m scale) (room_said (spelled negative m scale) (length out.old)) out.old result out.new }
 {
     let length = length_of(negative, m, scale);
     if out.len() < length {
-        return Written {
-            outcome: Checked::Refused(Refusal::Room),
-            length: 0,
-        };
+        return Err(Refusal::Room);
     }
     put(out, negative, m, scale);
-    Written {
-        outcome: Checked::Passed,
-        length: length,
-    }
+    Ok(length)
 }
 
 // The amount's text in front of the buffer, and its length; the rest of the buffer stays. Or the refusal 2, 3, 4 or 11.
-pub fn write(amount: Amount, out: &mut [u8]) -> Written
+pub fn write(amount: Amount, out: &mut [u8]) -> Result<usize, Refusal>
     ensures { Writes (text_of amount) (write_said amount (length out.old)) out.old result out.new }
 {
     let negative = is_negative(amount.coefficient);
     let m = magnitude(amount.coefficient);
-    match check_one(amount.scale, m, amount.currency) {
-        Checked::Refused(refusal) => Written {
-            outcome: Checked::Refused(refusal),
-            length: 0,
-        },
-        Checked::Passed => write_text(negative, m, amount.scale, out),
-    }
+    check_one(amount.scale, m, amount.currency)?;
+    write_text(negative, m, amount.scale, out)
 }

@@ -1,19 +1,16 @@
 -- From what a reader says of some bytes to where a view of them begins. Assumes nothing.
+use Rattle.std.specs.Prelude.{Result, Ok, Err}
 use mathlib.Core.Path.{◌≡◌, sym, ◌∙◌, ap}
 use mathlib.Core.List.{List}
 use Prim.Native.Nat.{ℕ}
 use Rattle.refusal.specs.declared.Refusal.{Refusal}
 use Rattle.refusal.specs.Number.{number_of, blamed_of}
-use Rattle.refusal.specs.Rows.{Said, gives, refuses}
+use Rattle.refusal.specs.Rows.{Said, gives, refuses, means}
 use Rattle.refusal.proofs.Check.{passed}
 use Rattle.refusal.proofs.Joined.{same_value, let_pass, same_refused}
 use Rattle.statement.specs.declared.Summary.{Summary}
-use Rattle.statement.specs.declared.Found.{Found}
-use Rattle.statement.specs.declared.Found.TheVariants.{Value, Refused}
 use Rattle.statement.specs.declared.SummaryOfAny.{SummaryOfAny}
-use Rattle.statement.specs.declared.FoundAny.{FoundAny}
-use Rattle.statement.specs.declared.FoundAny.TheVariants.{Value as ValueOfAny, Refused as RefusedAny}
-use Rattle.statement.specs.Reading.{means_found, read_rows, summary_of, read_said, means_found_any, reasons_in, any_rows, summary_in, any_said}
+use Rattle.statement.specs.Reading.{read_rows, summary_of, read_said, any_rows, summary_of_any, any_said}
 use Rattle.view.specs.Opening.{open_said, open_any_said}
 
 module _ (bytes : List ℕ) where
@@ -24,30 +21,30 @@ module _ (bytes : List ℕ) where
       (passed (gives (summary_of bytes).first) (read_rows bytes) (let_pass (summary_of bytes) s (read_rows bytes) said)
       ∙ ap (λ (x : Summary). gives x.first) (same_value (summary_of bytes) s (read_rows bytes) said))
 
-  pub open_found : (r : Found) → means_found r ≡ read_said bytes → (s : Summary) → r ≡ Value s → gives s.first ≡ open_said bytes
-  open_found r said s is = open_given s (sym said ∙ ap means_found is)
+  pub open_found : (r : Result Summary Refusal) → means r ≡ read_said bytes → (s : Summary) → r ≡ Ok s → gives s.first ≡ open_said bytes
+  open_found r said s is = open_given s (sym said ∙ ap means is)
 
-  pub open_refused : (r : Found) → means_found r ≡ read_said bytes → (x : Refusal) → r ≡ Refused x → ◌≡◌ {A = Said ℕ} (refuses (number_of x) (blamed_of x)) (open_said bytes)
+  pub open_refused : (r : Result Summary Refusal) → means r ≡ read_said bytes → (x : Refusal) → r ≡ Err x → ◌≡◌ {A = Said ℕ} (refuses (number_of x) (blamed_of x)) (open_said bytes)
   unfolding read_said open_said
   open_refused r said x is =
-      sym (same_refused (summary_of bytes) (gives (summary_of bytes).first) (number_of x) (blamed_of x) (read_rows bytes) (sym said ∙ ap means_found is))
+      sym (same_refused (summary_of bytes) (gives (summary_of bytes).first) (number_of x) (blamed_of x) (read_rows bytes) (sym said ∙ ap means is))
 
 -- the same of the reader of both versions
 module _ (bytes : List ℕ) where
-  pub open_any_given : (s : SummaryOfAny) → any_said bytes ≡ gives s → gives (s.version, s.first) ≡ open_any_said bytes
+  pub open_any_given : (s : SummaryOfAny) → any_said bytes ≡ gives s → gives (s.version, s.summary.first) ≡ open_any_said bytes
   unfolding any_said open_any_said
   open_any_given s said =
-      let x : SummaryOfAny = summary_in (reasons_in bytes) bytes in
+      let x : SummaryOfAny = summary_of_any bytes in
       sym
-      (passed (gives (x.version, x.first)) (any_rows bytes) (let_pass x s (any_rows bytes) said)
-      ∙ ap (λ (y : SummaryOfAny). gives (y.version, y.first)) (same_value x s (any_rows bytes) said))
+      (passed (gives (x.version, x.summary.first)) (any_rows bytes) (let_pass x s (any_rows bytes) said)
+      ∙ ap (λ (y : SummaryOfAny). gives (y.version, y.summary.first)) (same_value x s (any_rows bytes) said))
 
-  pub open_any_found : (r : FoundAny) → means_found_any r ≡ any_said bytes → (s : SummaryOfAny) → r ≡ ValueOfAny s → gives (s.version, s.first) ≡ open_any_said bytes
-  open_any_found r said s is = open_any_given s (sym said ∙ ap means_found_any is)
+  pub open_any_found : (r : Result SummaryOfAny Refusal) → means r ≡ any_said bytes → (s : SummaryOfAny) → r ≡ Ok s → gives (s.version, s.summary.first) ≡ open_any_said bytes
+  open_any_found r said s is = open_any_given s (sym said ∙ ap means is)
 
-  pub open_any_refused : (r : FoundAny) → means_found_any r ≡ any_said bytes → (x : Refusal) → r ≡ RefusedAny x
+  pub open_any_refused : (r : Result SummaryOfAny Refusal) → means r ≡ any_said bytes → (x : Refusal) → r ≡ Err x
       → ◌≡◌ {A = Said (ℕ × ℕ)} (refuses (number_of x) (blamed_of x)) (open_any_said bytes)
   unfolding any_said open_any_said
   open_any_refused r said x is =
-      let s : SummaryOfAny = summary_in (reasons_in bytes) bytes in
-      sym (same_refused s (gives (s.version, s.first)) (number_of x) (blamed_of x) (any_rows bytes) (sym said ∙ ap means_found_any is))
+      let s : SummaryOfAny = summary_of_any bytes in
+      sym (same_refused s (gives (s.version, s.summary.first)) (number_of x) (blamed_of x) (any_rows bytes) (sym said ∙ ap means is))

@@ -18,12 +18,10 @@ fn start(count: u32, weights: &[u32], held: &mut [u32]) -> u32
 {
     let total = weigh(weights);
     let mut left = count;
-    let mut i = 0;
-    while i < weights.len() {
-        let share = (count as u64 * weights[i] as u64 / total) as u32;
+    for (i, weight) in weights.iter().enumerate() {
+        let share = (u64::from(count) * u64::from(*weight) / total) as u32;
         held[i] = share;
         left -= share;
-        i += 1;
     }
     left
 }
@@ -35,18 +33,16 @@ fn highest_place(weights: &[u32], held: &[u32]) -> usize
     ensures { result ≡ highest weights.now held.now (length weights.now) }
 {
     let mut place = 0;
-    let mut weight = weights[0] as u64;
-    let mut next = held[0] as u64 + 1;
-    let mut i = 1;
-    while i < weights.len() {
-        let own = weights[i] as u64;
-        let after = held[i] as u64 + 1;
+    let mut weight = u64::from(weights[0]);
+    let mut next = u64::from(held[0]) + 1;
+    for i in 1..weights.len() {
+        let own = u64::from(weights[i]);
+        let after = u64::from(held[i]) + 1;
         if weight * after < own * next {
             place = i;
             weight = own;
             next = after;
         }
-        i += 1;
     }
     place
 }
@@ -69,10 +65,8 @@ fn give_out(vouchers: u32, weights: &[u32], held: &mut [u32])
     requires vouchers_bound { sum_of held.old + vouchers < 2 ^ 32 }
     ensures { held.new ≡ give_out vouchers weights.now held.old }
 {
-    let mut given = 0;
-    while given < vouchers {
+    for _given in 0..vouchers {
         give_one(weights, held);
-        given += 1;
     }
 }
 

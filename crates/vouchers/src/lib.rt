@@ -7,7 +7,7 @@ ghost use Rattle.weights.specs.Lent.{out_after};
 ghost use Rattle.average.specs.Rule.{vouchers_of};
 ghost use Rattle.vouchers.specs.Said.{voucher_rows, vouchers_said};
 
-use refusal::{Checked, check_rate};
+use refusal::{Refusal, check_rate};
 use weights::check_weights;
 
 mod giving;
@@ -16,26 +16,20 @@ mod giving;
 pub const MOST_VOUCHERS: u32 = 10_000;
 
 // The first row of the table that holds for so many vouchers, these weights and an output of so many places.
-fn check(count: u32, weights: &[u32], room: usize) -> Checked
+fn check(count: u32, weights: &[u32], room: usize) -> Result<(), Refusal>
     ensures { result ≡ check_of (voucher_rows count weights.now room) }
 {
-    match check_rate(count, MOST_VOUCHERS) {
-        Checked::Refused(refusal) => Checked::Refused(refusal),
-        Checked::Passed => check_weights(weights, room),
-    }
+    check_rate(count, MOST_VOUCHERS)?;
+    check_weights(weights, room)
 }
 
 // The vouchers of each weight into the first places of `out`, as many as weights, or the refusal 6, 9 or 11.
-pub fn vouchers(count: u32, weights: &[u32], out: &mut [u32]) -> Checked
+pub fn vouchers(count: u32, weights: &[u32], out: &mut [u32]) -> Result<(), Refusal>
     ensures said { means_outcome result (vouchers_of count weights.now) ≡ vouchers_said count weights.now (length out.old) }
     ensures places { out.new ≡ out_after (vouchers_said count weights.now (length out.old)) out.old }
 {
-    match check(count, weights, out.len()) {
-        Checked::Refused(refusal) => Checked::Refused(refusal),
-        Checked::Passed => {
-            let partners = weights.len();
-            giving::give_all(count, weights, &mut out[..partners]);
-            Checked::Passed
-        }
-    }
+    check(count, weights, out.len())?;
+    let partners = weights.len();
+    giving::give_all(count, weights, &mut out[..partners]);
+    Ok(())
 }

@@ -1,17 +1,17 @@
 -- What passes the check keeps the rule of weights and has room, for none of the rows holds. Assumes nothing.
+use Rattle.std.specs.Prelude.{Ok}
 use mathlib.Core.Path.{◌≡◌}
 use mathlib.Core.List.{List}
 use Prim.Native.Nat.{ℕ}
 use native.Mathlib.Omega.{arith}
 use borrow.Author.Tests.{ltb-false}
 use lib.ListN.{length}
-use Rattle.refusal.specs.declared.Checked.TheVariants.{Passed}
 use Rattle.refusal.specs.Rows.{check_of}
 use Rattle.refusal.proofs.Check.{clear}
 use Rattle.whole.specs.Sums.{sum_of}
 use Rattle.weights.specs.Weights.{most_weights, largest_sum, list_rows, Allowed}
 
-pub passed_allowed : (ws : List ℕ) (room : ℕ) → check_of (list_rows ws room) ≡ Passed → Allowed ws room
+pub passed_allowed : (ws : List ℕ) (room : ℕ) → check_of (list_rows ws room) ≡ Ok tt → Allowed ws room
 unfolding list_rows
 passed_allowed ws room e =
     let rows = clear (list_rows ws room) e in

@@ -5,7 +5,7 @@ ghost use Rattle.std.specs.Prelude.{◌≡◌};
 ghost use Rattle.refusal.specs.Rows.{check_of};
 ghost use Rattle.weights.specs.Weights.{list_rows, weighed};
 
-use refusal::{Checked, Refusal};
+use refusal::Refusal;
 
 // The most weights that a list has.
 pub const MOST_WEIGHTS: usize = 64;
@@ -13,6 +13,7 @@ pub const MOST_WEIGHTS: usize = 64;
 // The largest sum of its weights.
 pub const LARGEST_SUM: u64 = 1_000_000;
 
+// No Option: 0 is the promise `weighed`, and row 9 refuses a sum of 0 whatever its reason.
 // The sum of the weights, and 0 where there are more than a list may have.
 pub fn weigh(weights: &[u32]) -> u64
     ensures { result ≡ weighed weights.now }
@@ -21,33 +22,31 @@ pub fn weigh(weights: &[u32]) -> u64
         return 0;
     }
     let mut sum: u64 = 0;
-    let mut i = 0;
-    while i < weights.len() {
-        sum += weights[i] as u64;
-        i += 1;
+    for weight in weights {
+        sum += *weight as u64;
     }
     sum
 }
 
 // The first row of the table, 9 or 11, that holds for these weights and an output of so many places.
-pub fn check_weights(weights: &[u32], room: usize) -> Checked
+pub fn check_weights(weights: &[u32], room: usize) -> Result<(), Refusal>
     ensures { result ≡ check_of (list_rows weights.now room) }
 {
     if weights.len() < 1 {
-        return Checked::Refused(Refusal::Weights);
+        return Err(Refusal::Weights);
     }
     if MOST_WEIGHTS < weights.len() {
-        return Checked::Refused(Refusal::Weights);
+        return Err(Refusal::Weights);
     }
     let sum = weigh(weights);
     if sum < 1 {
-        return Checked::Refused(Refusal::Weights);
+        return Err(Refusal::Weights);
     }
     if LARGEST_SUM < sum {
-        return Checked::Refused(Refusal::Weights);
+        return Err(Refusal::Weights);
     }
     if room < weights.len() {
-        return Checked::Refused(Refusal::Room);
+        return Err(Refusal::Room);
     }
-    Checked::Passed
+    Ok(())
 }

@@ -1,4 +1,3 @@
-mod Signs
 pub mod Laws
 pub mod Sums
 pub mod Exchange

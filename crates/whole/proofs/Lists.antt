@@ -76,9 +76,6 @@ filled_all f xs d r long each =
 
 -- a list filled with the numbers of another, so far and to its end
 module _ {A : Type 0} (d : A) (l xs held : List A) (n : ℕ) (so_far : held ≡ filled 0 (λ k. get_or l k d) n xs) where
-  pub copy_length : length held ≡ length xs
-  copy_length = ap length so_far ∙ length_filled 0 (λ k. get_or l k d) xs n
-
   pub copy_all : length l ≡ length xs → n ≡ length xs → held ≡ l
   copy_all same e =
       so_far ∙ ap (λ (m : ℕ). filled 0 (λ k. get_or l k d) m xs) e ∙ filled_all (λ k. get_or l k d) xs d l same (λ k below. refl)

@@ -15,11 +15,7 @@ pub fn is_negative(n: i64) -> bool
 pub fn magnitude(n: i64) -> u64
     ensures { result ≡ magnitude_of n }
 {
-    if n < 0 {
-        (-(n + 1)) as u64 + 1
-    } else {
-        n as u64
-    }
+    n.unsigned_abs()
 }
 
 // The number with this sign and magnitude, and 0 where an i64 can't hold it.

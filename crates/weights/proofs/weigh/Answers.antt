@@ -11,15 +11,15 @@ use Rattle.weights.proofs.weigh.Goals as goal
 pub returns-then-weights-gt-MOST_WEIGHTS : goal.returns-then-weights-gt-MOST_WEIGHTS
 returns-then-weights-gt-MOST_WEIGHTS c = sym (weighed_none c.args.weights.now c.if-weights-gt-MOST_WEIGHTS.true)
 
-pub loop-i-preserved : goal.loop-i-preserved
+pub loop-weight-init : goal.loop-weight-init
 unfolding sum_to
-loop-i-preserved c = let i = c.loop-i.i in
-    (omega arith, rw add-one (omega arith), omega (arith, c.shared_slice_known-1.given i))
+loop-weight-init c = search rules
+
+pub loop-weight-preserved : goal.loop-weight-preserved
+unfolding sum_to
+loop-weight-preserved c = (rw add-one (omega arith), omega (arith, c.type_inv.weights c.loop-weight.weight-index))
 
 pub returns : goal.returns
-returns c = let a = c.args.weights.now in
-    c.loop-i.invariant.1 ∙ ap (sum_to (λ k. get_or a k 0)) (omega arith) ∙ sum_list a (length a) refl ∙ sym (weighed_sum a (omega arith))
-
-pub loop-i-init : goal.loop-i-init
-unfolding sum_to
-loop-i-init c = search rules
+returns c =
+    let ws = c.args.weights.now in
+    c.loop-weight.invariant.0 ∙ ap (sum_to (λ k. get_or ws k 0)) (omega arith) ∙ sum_list ws (length ws) refl ∙ sym (weighed_sum ws (omega arith))

@@ -1,4 +1,7 @@
 -- A refused check is the row that it names; what passed has the opposite coefficient. Assumes nothing.
+use Rattle.std.specs.Prelude.{Err}
+use Rattle.std.proofs.lemmas.Result.{err_from_is_err_and}
+use Rattle.refusal.specs.Rows.{means}
 use mathlib.Core.Path.{◌≡◌, sym, ◌∙◌, ap}
 use Prim.Native.Nat.{ℕ}
 use borrow.Author.Rules.{rules}
@@ -14,7 +17,7 @@ use mathlib.Core.List.{List}
 use Rattle.amount.specs.declared.Amount.{Amount}
 use Rattle.amount.specs.Amounts.{amount_rows}
 use Rattle.amount.specs.Sum.{negate_said}
-use Rattle.amount.proofs.Limits.{sound, read_magnitude}
+use Rattle.amount.proofs.Limits.{read_magnitude}
 use Rattle.amount.proofs.Amount.negate.Goals as goal
 
 -- the rows of an amount
@@ -25,10 +28,12 @@ rows_of_one a = amount_rows a.scale (magnitude_of a.coefficient) a.currency
 abbrev made : Amount → ℤ → Amount
 made a z = record { currency = a.currency; scale = a.scale; coefficient = z }
 
-pub returns-in-Refused : goal.returns-in-Refused
+pub returns-in_err-check_one : goal.returns-in_err-check_one
 unfolding negate_said
-returns-in-Refused c =
-    let own : SFits w64 c.args.self.coefficient = search rules in
+returns-in_err-check_one c =
+    let p = err_from_is_err_and c.from_residual.result c.from_residual.ensures.1 in
+    ap means (p.1 ∙ ap Err p.2)
+    ∙ (let own : SFits w64 c.args.self.coefficient = search rules in
     let told : c.check_one.result ≡ check_of (rows_of_one c.args.self) =
     let s = c in
     let a = s.args.self in
@@ -37,11 +42,11 @@ returns-in-Refused c =
     (read_magnitude a.coefficient c.magnitude.result own c.magnitude.ensures) in
     let k = c in
     let a = k.args.self in
-    sym (refused (gives (made a (neg_ℤ a.coefficient))) (rows_of_one a) c.in-Refused.refusal (sym told ∙ c.in-Refused.is))
+    sym (refused (gives (made a (neg_ℤ a.coefficient))) (rows_of_one a) c.in_err-check_one.field-0.0 (sym told ∙ c.in_err-check_one.was)))
 
-pub returns-in-Passed : goal.returns-in-Passed
+pub returns : goal.returns
 unfolding negate_said
-returns-in-Passed c =
+returns c =
     let own : SFits w64 c.args.self.coefficient = search rules in
     let told : c.check_one.result ≡ check_of (rows_of_one c.args.self) =
     let s = c in
@@ -54,4 +59,4 @@ returns-in-Passed c =
     let a = s.args.self in
     ap (λ (z : ℤ). gives (made a z))
     (read_back c.opposite.result c.opposite.type_inv ∙ rw (to_z-of_z w64 a.coefficient own) at c.opposite.ensures)
-    ∙ sym (passed (gives (made a (neg_ℤ a.coefficient))) (rows_of_one a) (sym told ∙ e.in-Passed.is))
+    ∙ sym (passed (gives (made a (neg_ℤ a.coefficient))) (rows_of_one a) (sym told ∙ e.in_ok-check_one.was))

@@ -1,4 +1,7 @@
 -- A refused check is the row that it names; what passed is the order at the greater scale. Assumes nothing.
+use Rattle.std.specs.Prelude.{Err}
+use Rattle.std.proofs.lemmas.Result.{err_from_is_err_and}
+use Rattle.refusal.specs.Rows.{means}
 use mathlib.Core.Path.{◌≡◌, sym, ◌∙◌, ap}
 use borrow.Author.Rules.{rules}
 use mir.Syntax.{w64}
@@ -26,14 +29,16 @@ ordered-requires c =
     let a = s.args.self in
     let b = s.args.other in
     let limits = pair a.scale b.scale (magnitude_of a.coefficient) (magnitude_of b.coefficient) a.currency b.currency
-    (sym told ∙ e.in-Passed.is) in
+    (sym told ∙ e.in_ok-check_two.was) in
     rw (to_z-of_z w64 a.coefficient own, to_z-of_z w64 b.coefficient other)
     (limits.first.within, limits.first.scaled, limits.second.within, limits.second.scaled)
 
-pub returns-in-Refused : goal.returns-in-Refused
+pub returns-in_err-check_two : goal.returns-in_err-check_two
 unfolding order_said
-returns-in-Refused c =
-    let own : SFits w64 c.args.self.coefficient = search rules in
+returns-in_err-check_two c =
+    let p = err_from_is_err_and c.from_residual.result c.from_residual.ensures.1 in
+    ap means (p.1 ∙ ap Err p.2)
+    ∙ (let own : SFits w64 c.args.self.coefficient = search rules in
     let other : SFits w64 c.args.other.coefficient = search rules in
     let told : let a = c.args in c.check_two.result ≡ check_of (rows_of_two a.self a.other) =
     let s = c in
@@ -43,12 +48,12 @@ returns-in-Refused c =
     let k = c in
     let a = k.args in
     sym
-    (refused (gives (found a.self a.other)) (rows_of_two a.self a.other) c.in-Refused.refusal
-    (sym told ∙ c.in-Refused.is))
+    (refused (gives (found a.self a.other)) (rows_of_two a.self a.other) c.in_err-check_two.field-0.0
+    (sym told ∙ c.in_err-check_two.was)))
 
-pub returns-in-Passed : goal.returns-in-Passed
+pub returns : goal.returns
 unfolding order_said
-returns-in-Passed c =
+returns c =
     let own : SFits w64 c.args.self.coefficient = search rules in
     let other : SFits w64 c.args.other.coefficient = search rules in
     let told : let a = c.args in c.check_two.result ≡ check_of (rows_of_two a.self a.other) =
@@ -61,4 +66,4 @@ returns-in-Passed c =
     let a = s.args.self in
     let b = s.args.other in
     ap gives (rw (to_z-of_z w64 a.coefficient own, to_z-of_z w64 b.coefficient other) at c.ordered.ensures)
-    ∙ sym (passed (gives (found a b)) (rows_of_two a b) (sym told ∙ e.in-Passed.is))
+    ∙ sym (passed (gives (found a b)) (rows_of_two a b) (sym told ∙ e.in_ok-check_two.was))

@@ -10,8 +10,8 @@ pub returns : goal.returns
 returns c = let r = c in
     let s = r in
     let scale = max s.args.s s.args.t in
-    let g = r.greater-scale in
-    c.compare.ensures
+    let g = r.max-scale in
+    c.cmp.ensures
     ∙ ap₂ compared
     (read_raised s.args.x r.raised.result s.args.s g.result scale s.ranges.x r.raised.type_inv g.ensures r.raised.ensures)
     (read_raised s.args.y c.raised-2.result s.args.t g.result scale s.ranges.y c.raised-2.type_inv g.ensures

@@ -10,7 +10,7 @@ use mir.Syntax.{w64}
 use mir.Val.{SFits}
 use mir.ValLaws.{to_z-of_z}
 use Rattle.refusal.specs.Rows.{Said, Row, check_of}
-use Rattle.refusal.proofs.Check.{passed, refused}
+use Rattle.refusal.proofs.Check.{passed}
 use Rattle.whole.specs.Whole.{magnitude_of}
 use Rattle.whole.proofs.Laws.{read_back}
 use Rattle.amount.specs.declared.Amount.{Amount}
@@ -18,7 +18,7 @@ use Rattle.rounding.specs.Leaf.{rounded}
 use Rattle.amount.specs.Amounts.{limited, raised_to}
 use Rattle.amount.specs.Raising.{nearer}
 use Rattle.amount.specs.Rescaling.{rescale_rows, rescaled}
-use Rattle.amount.proofs.Limits.{rescalable, read_magnitude}
+use Rattle.amount.proofs.Limits.{read_magnitude}
 use Rattle.amount.proofs.Raised.{stands_limited, either_stands}
 use Rattle.amount.proofs.rescale.by_rule.Goals as goal
 
@@ -33,9 +33,9 @@ made a t z = record { currency = a.currency; scale = t; coefficient = z }
 abbrev asked : Amount → ℕ → ℤ → Said Amount
 asked a t z = limited z (made a t z)
 
-pub returns-in-Passed : goal.returns-in-Passed
+pub returns : goal.returns
 unfolding rescaled
-returns-in-Passed c =
+returns c =
     let own : SFits w64 c.args.amount.coefficient = search rules in
     let told : let a = c.args in c.check.result ≡ check_of (rows_at a.amount a.scale) =
     let s = c in
@@ -53,4 +53,4 @@ returns-in-Passed c =
     ∙ stands_limited (made a t) (cond (leb a.scale t) (nearer (raised_to t a)) (rounded s.args.rule a.coefficient (10 ^ (a.scale - t))))
     (rescaled s.args.rule t a)
     (either_stands (leb a.scale t) (raised_to t a) (rounded s.args.rule a.coefficient (10 ^ (a.scale - t))))
-    ∙ sym (passed (asked a t (rescaled s.args.rule t a)) (rows_at a t) (sym told ∙ e.in-Passed.is))
+    ∙ sym (passed (asked a t (rescaled s.args.rule t a)) (rows_at a t) (sym told ∙ e.in_ok-check.was))

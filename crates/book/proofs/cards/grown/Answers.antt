@@ -1,47 +1,35 @@
--- At each place the sum takes the settled total's place, and an i64 holds it. Assumes nothing.
-use mathlib.Core.Path.{◌≡◌, ap, ◌∙◌}
+-- Each call of the closure gives the sum at its place, and an i64 holds it. Assumes nothing.
+use mathlib.Core.Path.{◌≡◌, sym, ap, ◌∙◌}
 use mathlib.Core.Bool.{false}
-use Prim.Native.Nat.{ℕ, ◌+◌, ◌^◌, ◌<◌}
+use mathlib.Core.List.{List}
+use Prim.Native.Nat.{ℕ, ◌+◌, ◌<◌}
 use native.Mathlib.Omega.{arith}
 use borrow.Author.Rules.{rules}
-use lib.IntN.{pos}
-use lib.ListN.{get_or}
-use mir.Syntax.{w64}
-use mir.Val.{to_z, of_z}
-use Rattle.whole.specs.Whole.{magnitude_of}
+use borrow.Author.Tests.{tests}
+use lib.IntN.{ℤ, pos}
+use lib.ListN.{length, get_or}
+use Rattle.whole.specs.Whole.{magnitude_of, held_signed}
 use Rattle.whole.specs.Lists.{filled}
-use Rattle.whole.proofs.Laws.{held_within, read_back}
-use Rattle.whole.proofs.Lists.{fill_none, fill_more}
+use Rattle.whole.proofs.Laws.{held_within}
+use Rattle.whole.proofs.Lists.{filled_all}
 use Rattle.book.specs.Checks.{added_by}
-use Rattle.book.proofs.cards.grown.Invariants.{added}
+use Rattle.book.proofs.Made.{made_at}
 use Rattle.book.proofs.cards.grown.Goals as goal
 
-pub loop-i-init : goal.loop-i-init
-loop-i-init c = (omega arith, fill_none 0 _ _)
-
-pub overflow_add-magnitude : goal.overflow_add-magnitude
-overflow_add-magnitude c =
-    let held : c.magnitude.result ≡ magnitude_of (get_or c.args.settled c.loop-i.i (pos 0)) =
-    let z = get_or c.args.settled c.loop-i.i (pos 0) in
-    c.magnitude.ensures ∙ ap magnitude_of (read_back z (search rules)) in
-    omega (arith, held, c.requires c.loop-i.i)
-
-pub loop-i-preserved : goal.loop-i-preserved
-loop-i-preserved c =
-    let held : c.magnitude.result ≡ magnitude_of (get_or c.args.settled c.loop-i.i (pos 0)) =
-    let z = get_or c.args.settled c.loop-i.i (pos 0) in
-    c.magnitude.ensures ∙ ap magnitude_of (read_back z (search rules)) in
-    let a = c.args in
-    let i = c.loop-i.i in
-    let sum = c.magnitude.result + get_or a.totals i 0 in
-    let small : sum < 2 ^ 63 = omega (arith, held, c.requires i) in
-    let stored : to_z w64 (of_z w64 c.signed.result) ≡ added a.settled a.totals i =
-    read_back c.signed.result c.signed.type_inv ∙ c.signed.ensures ∙ held_within false sum small ∙ ap (λ (x : ℕ). pos (x + get_or a.totals i 0)) held in
-    let at : i ≡ 0 + i = omega arith in
-    (omega arith, fill_more 0 (added a.settled a.totals) a.settled c.loop-i.grown i i _ c.loop-i.invariant.1 at stored)
+-- the sum at a place
+abbrev added : List ℤ → List ℕ → ℕ → ℤ
+added zs ts i = pos (magnitude_of (get_or zs i (pos 0)) + get_or ts i 0)
 
 pub returns : goal.returns
 unfolding added_by
-returns c = let a = c.args in
-    let e : c.loop-i.i ≡ 16 = omega arith in
-    c.loop-i.invariant.1 ∙ ap (λ (n : ℕ). filled 0 (added a.settled a.totals) n a.settled) e
+returns c =
+    let a = c.args in
+    let long : length c.args.settled ≡ 16 = search rules in
+    let made : (k : ℕ) → k < 16 → (d : ℤ) → get_or c.from_fn.result k d ≡ added c.args.settled c.args.totals k =
+    made_at _ _ (added c.args.settled c.args.totals) (λ i y q k.
+    let sum = magnitude_of (get_or c.args.settled i (pos 0)) + get_or c.args.totals i 0 in
+    let held : y ≡ held_signed false (magnitude_of (get_or c.args.settled i (pos 0)) + get_or c.args.totals i 0) = search (rules, tests) in
+    (search (rules, tests), held ∙ held_within false sum (omega (arith, c.requires i)))) c.from_fn.result 16 c.from_fn.ensures.items in
+    sym (ap (λ (n : ℕ). filled 0 (added a.settled a.totals) n a.settled) (sym long)
+    ∙ filled_all (added a.settled a.totals) a.settled (pos 0) c.from_fn.result (c.from_fn.ensures.items.long ∙ sym long)
+    (λ k below. sym (made k (omega arith) (pos 0))))

@@ -1,14 +1,13 @@
 -- The running totals are the rule's at the card's net total, and each sum is within L. Assumes nothing.
 use mathlib.Core.Path.{◌≡◌, ap, ◌∙◌}
 use mathlib.Core.List.{List}
-use Prim.Native.Nat.{◌+◌, ◌<◌}
-use native.Mathlib.Omega.{arith}
+use Prim.Native.Nat.{◌+◌}
 use borrow.Author.Rules.{rules}
 use lib.IntN.{ℤ, pos}
 use lib.ListN.{length}
 use Rattle.units.specs.Rule.{totals}
 use Rattle.running.proofs.Total.{totals_are}
-use Rattle.book.specs.Books.{partners, cards, net_of}
+use Rattle.book.specs.Books.{partners, net_of}
 use Rattle.book.specs.Checks.{added_by}
 use Rattle.book.proofs.CardAnswered.{sums_fit, added_are}
 use Rattle.book.proofs.cards.next_card.Goals as goal
@@ -19,11 +18,6 @@ grown-settled-requires c =
     let b = c.args.book in
     c.totals_at-totals.ensures ∙ totals_are b.weights c.requires.some c.requires.most _ ∙ ap (totals b.weights) c.net_of.ensures in
     rw made (sums_fit c.args.book c.requires)
-
-pub overflow_add-card : goal.overflow_add-card
-overflow_add-card c =
-    let further : c.args.book.card < cards = c.requires.further in
-    omega (arith, further)
 
 pub returns : goal.returns
 returns c =

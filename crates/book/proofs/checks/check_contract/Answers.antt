@@ -1,16 +1,9 @@
--- The weights decide first, and behind them the card. Assumes nothing.
-use mathlib.Core.Path.{sym, ◌∙◌}
+-- What the weights are refused for, the rows are. Assumes nothing.
 use Rattle.book.specs.Books.{weight_rows, card_rows}
-use Rattle.refusal.proofs.Joined.{front_refused, front_passed}
+use Rattle.book.proofs.Exits.{at_exit}
 use Rattle.book.proofs.checks.check_contract.Goals as goal
 
-pub returns-in-Refused : goal.returns-in-Refused
-returns-in-Refused c =
+pub returns-in_err-check_weights : goal.returns-in_err-check_weights
+returns-in_err-check_weights c =
     let a = c.args in
-    sym (front_refused (weight_rows a.count a.weights) (card_rows a.card a.behind) c.in-Refused.refusal (sym c.check_weights.ensures ∙ c.in-Refused.is))
-
-pub returns-in-Passed : goal.returns-in-Passed
-returns-in-Passed c =
-    let a = c.args in
-    c.check_card.ensures
-    ∙ sym (front_passed (weight_rows a.count a.weights) (card_rows a.card a.behind) (sym c.check_weights.ensures ∙ c.in-Passed.is))
+    at_exit _ _ (weight_rows a.count a.weights) (card_rows a.card a.behind) _ c.from_residual.ensures.1 c.check_weights.ensures c.in_err-check_weights.was

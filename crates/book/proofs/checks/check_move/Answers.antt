@@ -1,70 +1,78 @@
--- The rows of the amount and the book decide first, and behind them the weights and the signs. Assumes nothing.
+-- Rows 2 and 3 decide first, and behind them the others. Assumes nothing.
 use mathlib.Core.Path.{◌≡◌, sym, ap, ap₂, ◌∙◌}
-use mathlib.Core.Bool.{Bool}
-use mathlib.Core.List.{List, [], ◌∷◌, ◌++◌}
+use mathlib.Core.List.{List, ◌++◌}
 use Prim.Native.Nat.{ℕ}
-use borrow.Author.Rules.{rules}
-use mir.Syntax.{w64}
-use mir.Val.{SFits}
-use mir.ValLaws.{to_z-of_z}
-use Rattle.refusal.specs.Rows.{Row, row, check_of}
-use Rattle.refusal.specs.declared.Refusal.TheVariants.{Scale, Magnitude, Unknown, Differ}
-use Rattle.whole.specs.Whole.{negative}
+use Rattle.refusal.specs.Rows.{Said, gives, Row, first_row, check_of}
+use Rattle.refusal.proofs.Check.{passed}
 use Rattle.amount.specs.declared.Amount.{Amount}
-use Rattle.amount.specs.Amounts.{bad_scale, over_l}
-use Rattle.currency.specs.Table.{unknown, differ}
-use Rattle.currency.specs.Digits.{not_own_digits}
 use Rattle.book.specs.declared.Book.{Book}
 use Rattle.book.specs.declared.Past.{Past}
-use Rattle.book.specs.Books.{net_of, weight_rows, with_book}
+use Rattle.book.specs.Books.{net_of, settled_sum}
 use Rattle.book.specs.Moves.{units_of, move_rows}
-use Rattle.book.specs.Checks.{Tells, given_rows, contract_rows, sign_rows}
-use Rattle.book.proofs.Told.{told}
-use Rattle.refusal.proofs.Joined.{front_refused, front_passed}
+use Rattle.book.specs.Checks.{size_rows, settled_rows, past_of, behind_rows}
+use Rattle.book.proofs.Exits.{call_exit, exit_behind, pass_behind, was_refused, was_passed}
+use Rattle.book.proofs.SettledSaid.{move_parts}
 use Rattle.book.proofs.checks.check_move.Goals as goal
 
--- the rows in front and those behind, by what is told of the settled totals
-abbrev given : Book → Past → Amount → List Row
-given b past a = given_rows a.scale (units_of a) a.currency (net_of b) past.over past.full b.currency
+-- the parts of the rows: of the sizes, of the settled totals and those behind
+abbrev sizes : Book → Amount → List Row
+sizes b a = size_rows a.scale (units_of a) a.currency (net_of b)
 
-abbrev standing : Book → Past → Amount → List Row
-standing b past a =
-    contract_rows b.count b.weights b.card past.behind ++ sign_rows (negative a.coefficient) (negative b.net) past.negative
+abbrev settled : Book → List Row
+settled b = settled_rows b.net b.settled
 
--- they are the call's
-told_rows : (b : Book) (past : Past) (a : Amount) → Tells b.settled b.count b.net past
-    → check_of (given b past a ++ standing b past a) ≡ check_of (move_rows b a)
-unfolding move_rows with_book weight_rows given_rows
-told_rows b past a tells =
-    told b.settled b.count b.net past tells
-    (λ full behind below. row Magnitude full ∷ row Unknown (unknown a.currency) ∷ row Unknown (unknown b.currency) ∷ row Differ (differ a.currency b.currency)
-    ∷ contract_rows b.count b.weights b.card behind ++ sign_rows (negative a.coefficient) (negative b.net) below)
-    (row Scale (bad_scale a.scale) ∷ row Scale (not_own_digits a.currency a.scale) ∷ row Magnitude (over_l (units_of a)) ∷ row Magnitude (over_l (net_of b)) ∷ [])
+abbrev others : Book → Amount → List Row
+others b a = behind_rows b (past_of b.count b.settled) a
 
-pub returns-in-Refused : goal.returns-in-Refused
-returns-in-Refused c =
-    let front : c.check_given.result ≡ check_of (given c.args.book c.args.past c.args.amount) =
-    let a = c.args in
-    c.check_given.ensures
-    ∙ ap₂ (λ (m n : ℕ). check_of (given_rows a.amount.scale m a.amount.currency n a.past.over a.past.full a.book.currency))
-    c.units_of-units.ensures c.net_of-net.ensures in
-    let a = c.args in
-    sym (front_refused (given a.book a.past a.amount) (standing a.book a.past a.amount) c.in-Refused.refusal (sym front ∙ c.in-Refused.is))
-    ∙ told_rows a.book a.past a.amount c.requires
+abbrev answer : Book → Said ℕ
+answer b = gives (settled_sum b)
 
-pub returns-in-Passed : goal.returns-in-Passed
-returns-in-Passed c =
-    let amount_fits : SFits w64 c.args.amount.coefficient = search rules in
-    let net_fits : SFits w64 c.args.book.net = search rules in
-    let front : c.check_given.result ≡ check_of (given c.args.book c.args.past c.args.amount) =
-    let a = c.args in
-    c.check_given.ensures
-    ∙ ap₂ (λ (m n : ℕ). check_of (given_rows a.amount.scale m a.amount.currency n a.past.over a.past.full a.book.currency))
-    c.units_of-units.ensures c.net_of-net.ensures in
-    let a = c.args in
-    c.check_standing.ensures
-    ∙ ap₂ (λ (x y : Bool). check_of (contract_rows a.book.count a.book.weights a.book.card a.past.behind ++ sign_rows x y a.past.negative))
-    (c.is_negative.ensures ∙ ap negative (to_z-of_z w64 a.amount.coefficient amount_fits))
-    (c.is_negative-in-Passed.ensures ∙ ap negative (to_z-of_z w64 a.book.net net_fits))
-    ∙ sym (front_passed (given a.book a.past a.amount) (standing a.book a.past a.amount) (sym front ∙ c.in-Passed.is))
-    ∙ told_rows a.book a.past a.amount c.requires
+-- the rows that are asked first are of the magnitudes as the program has them
+asked : (b : Book) (a : Amount) (units net : ℕ) → units ≡ units_of a → net ≡ net_of b → check_of (size_rows a.scale units a.currency net) ≡ check_of (sizes b a)
+asked b a units net u n = ap₂ (λ (m n : ℕ). check_of (size_rows a.scale m a.currency n)) u n
+
+whole : (b : Book) (a : Amount) → first_row (sizes b a ++ (settled b ++ others b a)) (answer b) ≡ first_row (move_rows b a) (answer b)
+whole b a = ap (λ (rows : List Row). first_row rows (answer b)) (move_parts b a)
+
+pub returns-in_err-check_size : goal.returns-in_err-check_size
+returns-in_err-check_size c =
+    let b = c.args.book in
+    let a = c.args.amount in
+    exit_behind (answer b) (sizes b a) (settled b ++ others b a) _ _ c.from_residual.ensures.1
+    (sym (c.check_size.ensures ∙ asked b a _ _ c.units_of-units.ensures c.net_of-net.ensures) ∙ c.in_err-check_size.was)
+    ∙ whole b a
+
+pub returns-in_err-past : goal.returns-in_err-past
+returns-in_err-past c =
+    let b = c.args.book in
+    let a = c.args.amount in
+    let first = sym (c.check_size.ensures ∙ asked b a _ _ c.units_of-units.ensures c.net_of-net.ensures) ∙ c.in_ok-check_size.was in
+    exit_behind (answer b) (settled b) (others b a) _ _ c.from_residual-in_err-past.ensures.1
+    (was_refused (past_of b.count b.settled) _ (settled b) c.past_in.ensures _ c.in_err-past.was)
+    ∙ sym (pass_behind (answer b) (sizes b a) (settled b ++ others b a) first)
+    ∙ whole b a
+
+pub returns-in_err-check_behind : goal.returns-in_err-check_behind
+returns-in_err-check_behind c =
+    let b = c.args.book in
+    let a = c.args.amount in
+    let first = sym (c.check_size.ensures ∙ asked b a _ _ c.units_of-units.ensures c.net_of-net.ensures) ∙ c.in_ok-check_size.was in
+    let known = was_passed (past_of b.count b.settled) _ (settled b) c.past_in.ensures c.in_ok-past.past c.in_ok-past.was in
+    call_exit (answer b) _ _ (others b a) _ c.from_residual-in_err-check_behind.ensures.1
+    (c.check_behind.ensures ∙ ap (λ (p : Past). check_of (behind_rows b p a)) (sym known.1)) c.in_err-check_behind.was
+    ∙ sym (pass_behind (answer b) (settled b) (others b a) known.0)
+    ∙ sym (pass_behind (answer b) (sizes b a) (settled b ++ others b a) first)
+    ∙ whole b a
+
+pub returns : goal.returns
+returns c =
+    let b = c.args.book in
+    let a = c.args.amount in
+    let first = sym (c.check_size.ensures ∙ asked b a _ _ c.units_of-units.ensures c.net_of-net.ensures) ∙ c.in_ok-check_size.was in
+    let known = was_passed (past_of b.count b.settled) _ (settled b) c.past_in.ensures c.in_ok-past.past c.in_ok-past.was in
+    let last = sym (c.check_behind.ensures ∙ ap (λ (p : Past). check_of (behind_rows b p a)) (sym known.1)) ∙ c.in_ok-check_behind.was in
+    ap (λ (p : Past). gives p.sum) (sym known.1)
+    ∙ sym (passed (answer b) (others b a) last)
+    ∙ sym (pass_behind (answer b) (settled b) (others b a) known.0)
+    ∙ sym (pass_behind (answer b) (sizes b a) (settled b ++ others b a) first)
+    ∙ whole b a

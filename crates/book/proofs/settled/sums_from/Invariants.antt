@@ -1,12 +1,11 @@
--- From the last place down, the sums are those of the places passed, each within L. Assumes nothing.
+-- The sums so far and those of the places to come are those from the place on. Assumes nothing.
 use mathlib.Core.Path.{◌≡◌}
-use Prim.Native.Nat.{◌≤◌, ◌<◌}
-use lib.ListN.{drop}
+use Prim.Native.Nat.{◌+◌}
+use lib.ListN.{length, drop}
 use Rattle.book.specs.Settled.{above, below}
 use Rattle.book.proofs.settled.sums_from.Given as goal
 
-abbrev pub invariant-loop-i : goal.invariant-loop-i
-invariant-loop-i l = (l.i ≤ 16) × (l.above ≡ above (drop l.i l.settled)) × (l.below ≡ below (drop l.i l.settled)) × (l.i < l.from → l.i ≡ 16)
-
-abbrev pub decreases-loop-i : goal.decreases-loop-i
-decreases-loop-i l = l.i
+abbrev pub invariant-loop-total : goal.invariant-loop-total
+invariant-loop-total l =
+    (above (drop l.from l.fn.settled) ≡ l.above + above (drop (length l.yielded) (drop l.from l.fn.settled)))
+    × (below (drop l.from l.fn.settled) ≡ l.below + below (drop (length l.yielded) (drop l.from l.fn.settled)))

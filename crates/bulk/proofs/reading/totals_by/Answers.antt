@@ -24,37 +24,38 @@ bounds-table-left c =
     row_within a.weights a.sum a.table.now a.n c.requires.weighed (search rules) c.requires.cycled
 
 pub loop-i-init : goal.loop-i-init
-loop-i-init c = let a = c.args in read_start a.weights a.sum a.table.now a.n
+loop-i-init c = let a = c.args in
+    rw c.from-bits.ensures (read_start a.weights a.sum a.table.now a.n)
 
 pub overflow_mul-held : goal.overflow_mul-held
 overflow_mul-held c =
     let a = c.args in
     let l = c.loop-i in
-    omega (arith, total_small a.weights a.sum a.table.now a.n c.requires.weighed (search rules) c.requires.cycled l.bits l.held l.i l.invariant c.loop-i-test.true c.requires.n_le_largest)
+    rw c.from-weight.ensures (omega (arith, total_small a.weights a.sum a.table.now a.n c.requires.weighed (search rules) c.requires.cycled l.bits l.held l.i l.invariant c.loop-i-test.true c.requires.n_le_largest))
 
 pub overflow_mul-held-in-loop-i : goal.overflow_mul-held-in-loop-i
 overflow_mul-held-in-loop-i c =
     let a = c.args in
     let l = c.loop-i in
-    omega (arith, product_within a.weights a.sum a.table.now a.n c.requires.weighed (search rules) c.requires.cycled l.bits l.held l.i l.invariant c.loop-i-test.true)
+    rw c.from-weight.ensures (omega (arith, product_within a.weights a.sum a.table.now a.n c.requires.weighed (search rules) c.requires.cycled l.bits l.held l.i l.invariant c.loop-i-test.true))
 
 pub overflow_add-held : goal.overflow_add-held
 overflow_add-held c =
     let a = c.args in
     let l = c.loop-i in
-    omega (arith, total_small a.weights a.sum a.table.now a.n c.requires.weighed (search rules) c.requires.cycled l.bits l.held l.i l.invariant c.loop-i-test.true c.requires.n_le_largest)
+    rw c.from-weight.ensures (omega (arith, total_small a.weights a.sum a.table.now a.n c.requires.weighed (search rules) c.requires.cycled l.bits l.held l.i l.invariant c.loop-i-test.true c.requires.n_le_largest))
 
 pub overflow_add-held-in-loop-i : goal.overflow_add-held-in-loop-i
 overflow_add-held-in-loop-i c =
     let a = c.args in
     let l = c.loop-i in
-    omega (arith, total_small a.weights a.sum a.table.now a.n c.requires.weighed (search rules) c.requires.cycled l.bits l.held l.i l.invariant c.loop-i-test.true c.requires.n_le_largest)
+    rw c.from-weight.ensures (omega (arith, total_small a.weights a.sum a.table.now a.n c.requires.weighed (search rules) c.requires.cycled l.bits l.held l.i l.invariant c.loop-i-test.true c.requires.n_le_largest))
 
 pub loop-i-preserved : goal.loop-i-preserved
 loop-i-preserved c =
     let a = c.args in
     let l = c.loop-i in
-    read_more a.weights a.sum a.table.now a.n c.requires.weighed (search rules) c.requires.cycled l.bits l.held l.i l.invariant c.loop-i-test.true
+    rw c.from-weight.ensures (read_more a.weights a.sum a.table.now a.n c.requires.weighed (search rules) c.requires.cycled l.bits l.held l.i l.invariant c.loop-i-test.true)
 
 pub returns : goal.returns
 returns c =

@@ -14,22 +14,22 @@ serve-last-requires c =
     let a = c.args in
     c.check.ensures ∙ ap₂ (λ (x y : Bool). check_of (listed_rows a.book x y)) c.unequal-broken.ensures c.too_short-short.ensures in
     let a = c.args in
-    let fit = run_fit a.book (length a.refunds.now) (length a.coefficients.now) (length a.payouts.now) (length a.numbers.now) (sym checked ∙ c.in-Passed.is) in record { sound = fit.0; fit = fit.1 }
+    let fit = run_fit a.book (length a.refunds.now) (length a.coefficients.now) (length a.payouts.now) (length a.numbers.now) (sym checked ∙ c.in-Ok.is) in record { sound = fit.0; fit = fit.1 }
 
-pub returns-in-Refused : goal.returns-in-Refused
-returns-in-Refused c =
+pub returns-in-Err : goal.returns-in-Err
+returns-in-Err c =
     let checked : let a = c.args in c.check.result ≡ check_of (run_rows a.book (length a.refunds.now) (length a.coefficients.now) (length a.payouts.now) (length a.numbers.now)) =
     let a = c.args in
     c.check.ensures ∙ ap₂ (λ (x y : Bool). check_of (listed_rows a.book x y)) c.unequal-broken.ensures c.too_short-short.ensures in
     let a = c.args in
-    run_refused a.book a.refunds.now a.coefficients.now a.payouts.now a.numbers.now c.in-Refused.refusal
-    (sym checked ∙ c.in-Refused.is)
+    run_refused a.book a.refunds.now a.coefficients.now a.payouts.now a.numbers.now c.in-Err.refusal
+    (sym checked ∙ c.in-Err.is)
 
-pub returns-in-Passed : goal.returns-in-Passed
-returns-in-Passed c =
+pub returns-in-Ok : goal.returns-in-Ok
+returns-in-Ok c =
     let checked : let a = c.args in c.check.result ≡ check_of (run_rows a.book (length a.refunds.now) (length a.coefficients.now) (length a.payouts.now) (length a.numbers.now)) =
     let a = c.args in
     c.check.ensures ∙ ap₂ (λ (x y : Bool). check_of (listed_rows a.book x y)) c.unequal-broken.ensures c.too_short-short.ensures in
     let a = c.args in
     run_passed a.book a.refunds.now a.coefficients.now a.payouts.now a.numbers.now
-    (sym checked ∙ c.in-Passed.is) c.serve-last.ensures
+    (sym checked ∙ c.in-Ok.is) c.serve-last.ensures

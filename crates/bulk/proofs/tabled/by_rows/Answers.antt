@@ -47,54 +47,25 @@ module _ (b : Book) (sound : Sound b) (refunds : List Bool) (coefficients : List
   lengths : (length ps ≡ length payouts) × (length ns ≡ length numbers)
   lengths = served_lengths b refunds coefficients payouts numbers served
 
-pub totals_by-held-requires : goal.totals_by-held-requires
-totals_by-held-requires c =
+pub totals_by-held-requires-clause-n_le_largest : goal.totals_by-held-requires-clause-n_le_largest
+totals_by-held-requires-clause-n_le_largest c =
     let r = c.requires in
     let s = started c.args.book r.sound _ c.magnitude-net.result c.settled_sum-settled.ensures (search rules) c.magnitude-net.ensures in
-    record { weighed = r.weighed; cycled = r.cycled; n_le_largest = omega (arith, s.limit) }
+    omega (arith, s.limit)
 
 pub loop-j-init : goal.loop-j-init
 loop-j-init c =
     let s = started c.args.book c.requires.sound _ _ c.settled_sum-settled.ensures (search rules) c.magnitude-net.ensures in
-    (search rules, s.limit, c.totals_by-held.ensures, serving_start _ _ _ _ _ _ _)
-
-pub step-net-requires : goal.step-net-requires
-step-net-requires c =
-    let a = c.args in
-    let r = c.requires in
-    let l = c.loop-j in
-    let s = started a.book r.sound _ c.magnitude-net.result c.settled_sum-settled.ensures (search rules) c.magnitude-net.ensures in
-    let long = lengths a.book r.sound a.refunds.now a.coefficients.now a.payouts.now a.numbers.now _ _ s l.j l.net l.payouts l.numbers l.invariant.3 in
-    record {
-      weighed = r.weighed;
-      cycled = r.cycled;
-      net_bound = (l.invariant.1, l.invariant.2);
-      partners_in_bounds = (omega arith, omega arith);
-    }
+    (s.limit, c.totals_by-held.ensures, serving_start _ _ _ _ _ _ _)
 
 pub loop-j-preserved : goal.loop-j-preserved
 loop-j-preserved c =
     let t = c.step-net in
     let a = c.args in (
-      omega (arith, c.loop-j-test.true),
-      step_within c.loop-j.invariant.1 t.ensures,
+      step_within c.loop-j.invariant.0 t.ensures,
       t.ensures.held,
-      serving_step a.refunds.now a.coefficients.now a.payouts.now a.numbers.now a.book.weights _ _ _ (read_back _ (search rules)) c.loop-j.invariant.1 c.loop-j.invariant.3 t.ensures,
+      serving_step a.refunds.now a.coefficients.now a.payouts.now a.numbers.now a.book.weights _ _ _ (read_back _ (search rules)) c.loop-j.invariant.0 c.loop-j.invariant.2 t.ensures,
     )
-
-pub shape_of-payouts : goal.shape_of-payouts
-shape_of-payouts c =
-    let a = c.args in
-    let l = c.loop-j in
-    let s = started a.book c.requires.sound _ c.magnitude-net.result c.settled_sum-settled.ensures (search rules) c.magnitude-net.ensures in
-    (lengths a.book c.requires.sound a.refunds.now a.coefficients.now a.payouts.now a.numbers.now _ _ s l.j l.net l.payouts l.numbers l.invariant.3).0
-
-pub shape_of-numbers : goal.shape_of-numbers
-shape_of-numbers c =
-    let a = c.args in
-    let l = c.loop-j in
-    let s = started a.book c.requires.sound _ c.magnitude-net.result c.settled_sum-settled.ensures (search rules) c.magnitude-net.ensures in
-    (lengths a.book c.requires.sound a.refunds.now a.coefficients.now a.payouts.now a.numbers.now _ _ s l.j l.net l.payouts l.numbers l.invariant.3).1
 
 pub returns : goal.returns
 returns c =
@@ -102,4 +73,4 @@ returns c =
     let l = c.loop-j in
     let s = started a.book c.requires.sound _ c.magnitude-net.result c.settled_sum-settled.ensures (search rules) c.magnitude-net.ensures in
     let e : l.j ≡ length a.refunds.now = omega arith in
-    (omega (arith, l.invariant.1), rw e at (served a.book c.requires.sound a.refunds.now a.coefficients.now a.payouts.now a.numbers.now _ _ s l.j l.net l.payouts l.numbers l.invariant.3))
+    (omega (arith, l.invariant.0), rw e at (served a.book c.requires.sound a.refunds.now a.coefficients.now a.payouts.now a.numbers.now _ _ s l.j l.net l.payouts l.numbers l.invariant.2))

@@ -12,14 +12,10 @@ use Rattle.cycle.specs.Cycle.{Cycled}
 use Rattle.cycle.proofs.Table.{has_rows}
 use Rattle.bulk.proofs.tabled.by_table.Goals as goal
 
-pub by_rows-net-requires : goal.by_rows-net-requires
-by_rows-net-requires c =
-    let a = c.args in record {
-      sound = c.requires.sound;
-      weighed = c.requires.weighed;
-      cycled = subst (Cycled a.book.weights a.sum) (sym c.fill_cycle.ensures) (has_rows a.book.weights _ a.sum c.requires.weighed c.requires.weighed.most);
-      fit = c.requires.fit;
-    }
+pub by_rows-net-requires-clause-cycled : goal.by_rows-net-requires-clause-cycled
+by_rows-net-requires-clause-cycled c =
+    let a = c.args in
+    subst (Cycled a.book.weights a.sum) (sym c.fill_cycle.ensures) (has_rows a.book.weights _ a.sum c.requires.weighed c.requires.weighed.most)
 
 pub returns : goal.returns
 unfolding next_book

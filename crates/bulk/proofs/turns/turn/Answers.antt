@@ -9,4 +9,4 @@ returns c =
     let a = c.args in
     turned a.book a.refund a.coefficient _ a.j a.payouts.now a.numbers.now _ _ c.call-moved.result
     (to_z-of_z w64 a.coefficient c.ranges.coefficient) c.call-moved.ensures c.write.ensures
-    c.number.ensures
+    c.number_in.ensures

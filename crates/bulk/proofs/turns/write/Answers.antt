@@ -1,28 +1,13 @@
--- After i turns the first i payouts stand from the place on. Assumes nothing.
-use mathlib.Core.Path.{◌≡◌, refl, ap, ◌∙◌}
+-- The copied payouts are written from the place on. Assumes nothing.
+use mathlib.Core.Path.{◌≡◌, sym}
 use native.Mathlib.Omega.{arith}
-use lib.ListN.{length, get_or}
-use Rattle.whole.proofs.Lists.{fill_none, fill_more, length_filled}
-use Rattle.bulk.specs.Runs.{written}
+use borrow.Author.Rules.{rules}
+use lib.ListN.{length}
+use Rattle.bulk.proofs.Written.{copied}
 use Rattle.bulk.proofs.turns.write.Goals as goal
 
-pub loop-i-init : goal.loop-i-init
-loop-i-init c = (omega arith, fill_none _ _ _)
-
-pub bounds-out-at : goal.bounds-out-at
-bounds-out-at c =
-    let long : length c.loop-i.out ≡ length c.args.out.now = let a = c.args in ap length c.loop-i.invariant.1 ∙ length_filled a.at (λ k. get_or a.payouts k 0) a.out.now c.loop-i.i in
-    omega (arith, long)
-
-pub loop-i-preserved : goal.loop-i-preserved
-loop-i-preserved c = let a = c.args in
-    let l = c.loop-i in
-    (omega arith, fill_more a.at (λ k. get_or a.payouts k 0) a.out.now l.out l.i _ _ l.invariant.1 refl refl)
-
-pub shape_of-out : goal.shape_of-out
-shape_of-out c =
-    let long : length c.loop-i.out ≡ length c.args.out.now = let a = c.args in ap length c.loop-i.invariant.1 ∙ length_filled a.at (λ k. get_or a.payouts k 0) a.out.now c.loop-i.i in
-    long
-
 pub returns : goal.returns
-returns c = let a = c.args in c.loop-i.invariant.1 ∙ ap (written a.out.now a.at a.payouts) (omega arith)
+returns c =
+    let a = c.args in
+    let long : length c.args.payouts ≡ 16 = search rules in
+    copied a.out.now a.payouts _ a.at 16 _ c.copy_from_slice.ensures.after (sym long) (omega arith) c.requires

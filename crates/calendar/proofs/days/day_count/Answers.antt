@@ -1,67 +1,20 @@
--- Each test of the code is its row's: the day numbers are asked of dates that exist, the count of dates in order. Assumes nothing.
-use mathlib.Core.Path.{◌≡◌, sym, ◌∙◌, ap}
-use mathlib.Core.Bool.{true, false}
-use mathlib.Core.List.{[], ◌∷◌}
-use native.Mathlib.Omega.{arith}
-use lib.Dec.{ltb}
-use borrow.Author.Tests.{le-leb, lt-leb, lt-ltb, le-ltb}
-use Rattle.refusal.specs.declared.Refusal.TheVariants.{Days}
-use Rattle.refusal.specs.Rows.{gives, row, first_row}
-use Rattle.calendar.specs.DayCount.{day_of}
-use Rattle.calendar.specs.DaysSaid.{date_exists, unknown_basis, days_rows, days_said}
-use Rattle.calendar.specs.Counting.{Numbered}
-use Rattle.calendar.proofs.DaysRows.{by_count}
+-- An unknown basis is row 6, which no other row precedes; a known one has its own number. Assumes nothing.
+use Rattle.std.specs.Prelude.{Err}
+use Rattle.std.proofs.lemmas.Result.{err_from_is_err_and}
+use mathlib.Core.Path.{sym, ◌∙◌, ap}
+use Prim.Native.Nat.{ℕ}
+use Rattle.refusal.specs.Rows.{means}
+use Rattle.calendar.specs.DaysSaid.{days_said}
+use Rattle.calendar.proofs.BasisNumbers.{no_basis, own_number}
 use Rattle.calendar.proofs.days.day_count.Goals as goal
 
-pub returns-then-basis-ge-BASES : goal.returns-then-basis-ge-BASES
-unfolding days_rows days_said
-returns-then-basis-ge-BASES c = simp (le-leb 4 c.args.basis (omega arith))
-
-pub returns-then-not-date_exists : goal.returns-then-not-date_exists
-unfolding days_rows days_said
-returns-then-not-date_exists c =
-    let basis_known : unknown_basis c.args.basis ≡ false = lt-leb 4 c.args.basis (omega arith) in
-    simp (basis_known, sym c.date_exists.ensures ∙ c.if-not-date_exists.true)
-
-pub returns-then-not-date_exists-2 : goal.returns-then-not-date_exists-2
-unfolding days_rows days_said
-returns-then-not-date_exists-2 c =
-    let basis_known : unknown_basis c.args.basis ≡ false = lt-leb 4 c.args.basis (omega arith) in
-    let start_exists : date_exists c.args.start ≡ true = sym c.date_exists.ensures ∙ c.if-not-date_exists.false in
-    let second = c in
-    simp
-    (basis_known, start_exists, sym c.date_exists-2.ensures ∙ c.if-not-date_exists-2.true)
-
-pub returns-then-to-from : goal.returns-then-to-from
-unfolding days_rows days_said
-returns-then-to-from c =
-    let basis_known : unknown_basis c.args.basis ≡ false = lt-leb 4 c.args.basis (omega arith) in
-    let start_exists : date_exists c.args.start ≡ true = sym c.date_exists.ensures ∙ c.if-not-date_exists.false in
-    let end_exists : date_exists c.args.end ≡ true = sym c.date_exists-2.ensures ∙ c.if-not-date_exists-2.false in
-    let third = c in
-    let second = third in
-    let a = second.args in
-    simp (
-      basis_known,
-      start_exists,
-      end_exists,
-      lt-ltb (day_of a.end) (day_of a.start) (omega (arith, c.if-to-from.true, c.day_number-from.ensures, c.day_number-to.ensures)),
-    )
-
-pub returns-then-days-gt366 : goal.returns-then-days-gt366
-returns-then-days-gt366 c =
-    let call = c in
-    let start_exists : date_exists c.args.start ≡ true = sym c.date_exists.ensures ∙ c.if-not-date_exists.false in
-    let end_exists : date_exists c.args.end ≡ true = sym c.date_exists-2.ensures ∙ c.if-not-date_exists-2.false in
-    let numbered : Numbered call.args.start call.args.end c.day_number-from.result c.day_number-to.result = let third = c in let from = c.day_number-from.ensures in let to = c.day_number-to.ensures in record { dates = record { first = start_exists; second = end_exists; order = omega (arith, c.if-to-from.false, from, to) }; first = from; second = to } in
-    let at_last : let a = call.args in let n = c.count_of-days.result in days_said a.basis a.start a.end ≡ first_row (row Days (ltb 366 n) ∷ []) (gives n) = let a = call.args in let first = c in by_count a.basis a.start a.end (omega (arith, first.if-basis-ge-BASES.false)) numbered.dates ∙ ap (λ n. first_row (row Days (ltb 366 n) ∷ []) (gives n)) (sym c.count_of-days.ensures) in
-    sym (at_last ∙ simp (lt-ltb 366 c.count_of-days.result (omega (arith, c.if-days-gt366.true))))
+pub returns-in_err-basis : goal.returns-in_err-basis
+returns-in_err-basis c =
+    let p = err_from_is_err_and c.from_residual.result c.from_residual.ensures.1 in
+    let a = c.args in
+    ap means (p.1 ∙ ap Err p.2) ∙ sym (no_basis a.basis a.start a.end c.in_err-basis.field-0.0 (sym c.try_from.ensures ∙ c.in_err-basis.was))
 
 pub returns : goal.returns
 returns c =
-    let call = c in
-    let start_exists : date_exists c.args.start ≡ true = sym c.date_exists.ensures ∙ c.if-not-date_exists.false in
-    let end_exists : date_exists c.args.end ≡ true = sym c.date_exists-2.ensures ∙ c.if-not-date_exists-2.false in
-    let numbered : Numbered call.args.start call.args.end c.day_number-from.result c.day_number-to.result = let third = c in let from = c.day_number-from.ensures in let to = c.day_number-to.ensures in record { dates = record { first = start_exists; second = end_exists; order = omega (arith, c.if-to-from.false, from, to) }; first = from; second = to } in
-    let at_last : let a = call.args in let n = c.count_of-days.result in days_said a.basis a.start a.end ≡ first_row (row Days (ltb 366 n) ∷ []) (gives n) = let a = call.args in let first = c in by_count a.basis a.start a.end (omega (arith, first.if-basis-ge-BASES.false)) numbered.dates ∙ ap (λ n. first_row (row Days (ltb 366 n) ∷ []) (gives n)) (sym c.count_of-days.ensures) in
-    sym (at_last ∙ simp (le-ltb 366 c.count_of-days.result (omega (arith, c.if-days-gt366.false))))
+    let a = c.args in
+    c.days_between.ensures ∙ ap (λ (n : ℕ). days_said n a.start a.end) (own_number a.basis c.in_ok-basis.basis (sym c.try_from.ensures ∙ c.in_ok-basis.was))

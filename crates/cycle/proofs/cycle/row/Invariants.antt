@@ -1,10 +1,6 @@
 -- Each turn adds one place's bit. Assumes nothing.
-use Prim.Native.Nat.{◌-◌}
 use Rattle.cycle.proofs.RowBits.{Rowed}
 use Rattle.cycle.proofs.cycle.row.Given as goal
 
 abbrev pub invariant-loop-i : goal.invariant-loop-i
-invariant-loop-i l = Rowed l.weights l.held l.n l.i l.bits l.power
-
-abbrev pub decreases-loop-i : goal.decreases-loop-i
-decreases-loop-i l = 16 - l.i
+invariant-loop-i l = Rowed l.weights l.held l.n l.i l.bits

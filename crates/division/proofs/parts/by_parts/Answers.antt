@@ -1,20 +1,17 @@
 -- The quotient of a, times b, and the quotient of what is left. Assumes nothing.
 use mathlib.Core.Path.{◌≡◌, sym, ◌∙◌, subst}
-use Prim.Native.Nat.{ℕ, ◌-◌, ◌*◌, ◌/◌, ◌%◌, ◌≤◌, ◌<◌}
-use native.Mathlib.Nat.{div-add-mod', mod-lt, div-mul-le_self}
+use Prim.Native.Nat.{ℕ, ◌-◌, ◌*◌, ◌/◌, ◌%◌}
+use native.Mathlib.Nat.{div-add-mod'}
 use native.Mathlib.Omega.{arith}
-use borrow.Author.Tests.{ltb-true, ltb-false}
+use borrow.Author.Tests.{ltb-true}
 use Rattle.division.specs.Division.{most}
 use Rattle.division.specs.Digits.{Parts}
-use Rattle.division.proofs.Split.{quotient_most, over_first, whole_parts}
+use Rattle.division.proofs.Split.{over_first, whole_parts}
 use Rattle.division.proofs.Divides.{capped_divides}
 use Rattle.division.proofs.parts.by_parts.Goals as goal
 
 rest_is : (n d : ℕ) → n - n / d * d ≡ n % d
 rest_is n d = omega (arith, div-add-mod' n d)
-
-rest_less : (n d : ℕ) → 0 < d → n - n / d * d < d
-rest_less n d h = rw (rest_is n d) (mod-lt n h)
 
 pub returns-then-is_over : goal.returns-then-is_over
 returns-then-is_over c = let a = c.args in

@@ -1,37 +1,39 @@
 -- A refused check is the row that it names; what passed is each column's coefficient, by its bits' sign. Assumes nothing.
-use mathlib.Core.Path.{◌≡◌, sym, ◌∙◌, ap₂}
-use Rattle.refusal.specs.Rows.{gives, check_of}
+use Rattle.std.proofs.lemmas.Result.{err_from_is_err_and}
+use mathlib.Core.Path.{sym, ◌∙◌, ap, ap₂}
+use Rattle.refusal.specs.Rows.{gives}
+use Rattle.whole.specs.Whole.{signed_of}
 use Rattle.amount.specs.declared.Amount.{Amount}
-use Rattle.doubles.proofs.Taking.{held, same_check, made_refused, within, both}
+use Rattle.doubles.specs.declared.column.Column.{Column}
+use Rattle.doubles.specs.Doubles.{amount_at}
+use Rattle.doubles.proofs.Taking.{asked, made_refused, within, both}
 use Rattle.doubles.proofs.rows.made.Goals as goal
 
-pub amount_of-requires : goal.amount_of-requires
-amount_of-requires c =
+pub amount-requires : goal.amount-requires
+amount-requires c =
     let a = c.args in
-    let told : c.check_columns.result ≡ check_of (held a.rule a.currency a.scale a.net a.tax) =
-    c.check_columns.ensures ∙ same_check c.column-m.ensures c.column-n.ensures c.no_number.ensures c.no_number-2.ensures in
-    rw c.column-m.ensures (within a.rule a.currency a.scale a.net a.tax (sym told ∙ c.in-Passed.is)).0
+    let told = asked a.rule a.currency a.scale a.net a.tax _ _ _ c.read-net.ensures c.read-tax.ensures c.check_columns.ensures in
+    rw c.read-net.ensures (within a.rule a.currency a.scale a.net a.tax (sym told ∙ c.in_ok-check_columns.was)).0
 
-pub amount_of-requires-in-Passed : goal.amount_of-requires-in-Passed
-amount_of-requires-in-Passed c =
+pub amount-requires-2 : goal.amount-requires-2
+amount-requires-2 c =
     let a = c.args in
-    let told : c.check_columns.result ≡ check_of (held a.rule a.currency a.scale a.net a.tax) =
-    c.check_columns.ensures ∙ same_check c.column-m.ensures c.column-n.ensures c.no_number.ensures c.no_number-2.ensures in
-    rw c.column-n.ensures (within a.rule a.currency a.scale a.net a.tax (sym told ∙ c.in-Passed.is)).1
+    let told = asked a.rule a.currency a.scale a.net a.tax _ _ _ c.read-net.ensures c.read-tax.ensures c.check_columns.ensures in
+    rw c.read-tax.ensures (within a.rule a.currency a.scale a.net a.tax (sym told ∙ c.in_ok-check_columns.was)).1
 
-pub returns-in-Refused : goal.returns-in-Refused
-returns-in-Refused c =
+pub returns-in_err-check_columns : goal.returns-in_err-check_columns
+returns-in_err-check_columns c =
     let a = c.args in
-    let told : c.check_columns.result ≡ check_of (held a.rule a.currency a.scale a.net a.tax) =
-    c.check_columns.ensures ∙ same_check c.column-m.ensures c.column-n.ensures c.no_number.ensures c.no_number-2.ensures in
-    sym (made_refused a.rule a.currency a.scale a.net a.tax c.in-Refused.refusal (sym told ∙ c.in-Refused.is))
+    let told = asked a.rule a.currency a.scale a.net a.tax _ _ _ c.read-net.ensures c.read-tax.ensures c.check_columns.ensures in
+    let p = err_from_is_err_and c.from_residual.result c.from_residual.ensures.1 in
+    rw (p.1, p.2)
+    (sym (made_refused a.rule a.currency a.scale a.net a.tax c.in_err-check_columns.field-0.0 (sym told ∙ c.in_err-check_columns.was)))
 
-pub returns-in-Passed : goal.returns-in-Passed
-returns-in-Passed c =
+pub returns : goal.returns
+returns c =
     let a = c.args in
-    let told : c.check_columns.result ≡ check_of (held a.rule a.currency a.scale a.net a.tax) =
-    c.check_columns.ensures ∙ same_check c.column-m.ensures c.column-n.ensures c.no_number.ensures c.no_number-2.ensures in
-    ap₂ (λ (x y : Amount). gives (record { net = x; tax = y })) c.amount_of.ensures c.amount_of-in-Passed.ensures
-    ∙ sym
-    (both a.rule a.currency a.scale a.net a.tax c.column-m.result c.column-n.result c.column-m.ensures c.column-n.ensures
-    (sym told ∙ c.in-Passed.is))
+    let told = asked a.rule a.currency a.scale a.net a.tax _ _ _ c.read-net.ensures c.read-tax.ensures c.check_columns.ensures in
+    let as_amount : Column → Amount = λ x. amount_at a.currency a.scale (signed_of x.negative x.m) in
+    ap₂ (λ (x y : Amount). gives (record { net = x; tax = y })) (c.amount.ensures ∙ ap as_amount c.read-net.ensures)
+    (c.amount-2.ensures ∙ ap as_amount c.read-tax.ensures)
+    ∙ both a.rule a.currency a.scale a.net a.tax (sym told ∙ c.in_ok-check_columns.was)

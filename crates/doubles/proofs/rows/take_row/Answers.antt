@@ -1,4 +1,6 @@
 -- A refused mode and a refused check are the rows that they name; behind them the columns are taken by their bits, which are the doubles'. Assumes nothing.
+use Rattle.std.specs.Prelude.{Ok}
+use Rattle.std.proofs.lemmas.Result.{err_from_is_err_and}
 use mathlib.Core.Path.{◌≡◌, sym, ◌∙◌, ap, ap₂}
 use Prim.Native.Nat.{ℕ}
 use borrow.Author.Rules.{rules}
@@ -8,7 +10,6 @@ use lib.Ieee.{Float, binary64, fits, to_bits, of_bits}
 use lib.Ieee.Bits.{of_bits-to_bits}
 use Rattle.refusal.proofs.Check.{passed, refused, clear}
 use Rattle.rounding.specs.declared.Rule.{Rule}
-use Rattle.rounding.specs.declared.Choice.TheVariants.{Chosen}
 use Rattle.rounding.specs.Modes.{rule_of, choice_of}
 use Rattle.rounding.proofs.Chosen.{mode_refused, mode_chosen, rule_chosen}
 use Rattle.doubles.specs.Doubles.{last_scale, given_rows, made_said, taken_said}
@@ -22,38 +23,44 @@ pub made-requires : goal.made-requires
 unfolding given_rows
 made-requires c =
     let a = c.args in
-    ltb-false last_scale a.scale (clear (given_rows a.scale a.currency) (sym c.check_given.ensures ∙ c.in-Passed.is)).0
+    ltb-false last_scale a.scale (clear (given_rows a.scale a.currency) (sym c.check_given.ensures ∙ c.in_ok-check_given.was)).0
 
-pub returns-in-Refused : goal.returns-in-Refused
+pub returns-in_err-rule : goal.returns-in_err-rule
 unfolding taken_said
-returns-in-Refused c = let a = c.args in
-    sym
+returns-in_err-rule c =
+    let a = c.args in
+    let p = err_from_is_err_and c.from_residual.result c.from_residual.ensures.1 in
+    rw (p.1, p.2)
+    (sym
     (mode_refused (made_said (rule_of a.mode) a.currency a.scale a.given.net a.given.tax) (given_rows a.scale a.currency) a.mode
-    c.in-Refused.refusal (sym c.rule_of.ensures ∙ c.in-Refused.is))
+    c.in_err-rule.field-0.0 (sym c.try_from.ensures ∙ c.in_err-rule.was)))
 
-pub returns-in-Refused-check_given : goal.returns-in-Refused-check_given
+pub returns-in_err-check_given : goal.returns-in_err-check_given
 unfolding taken_said
-returns-in-Refused-check_given c =
-    let chosen : choice_of c.args.mode ≡ Chosen c.in-Chosen.rule = sym c.rule_of.ensures ∙ c.in-Chosen.is in
+returns-in_err-check_given c =
+    let chosen : choice_of c.args.mode ≡ Ok c.in_ok-rule.rule = sym c.try_from.ensures ∙ c.in_ok-rule.was in
     let a = c.args in
     let value = made_said (rule_of a.mode) a.currency a.scale a.given.net a.given.tax in
-    sym
-    (mode_chosen value (given_rows a.scale a.currency) a.mode c.in-Chosen.rule chosen
-    ∙ refused value (given_rows a.scale a.currency) c.in-Refused-check_given.refusal (sym c.check_given.ensures ∙ c.in-Refused-check_given.is))
+    let f = c.from_residual-in_err-check_given in
+    let p = err_from_is_err_and f.result f.ensures.1 in
+    rw (p.1, p.2)
+    (sym
+    (mode_chosen value (given_rows a.scale a.currency) a.mode c.in_ok-rule.rule chosen
+    ∙ refused value (given_rows a.scale a.currency) c.in_err-check_given.field-0.0 (sym c.check_given.ensures ∙ c.in_err-check_given.was)))
 
-pub returns-in-Passed : goal.returns-in-Passed
+pub returns : goal.returns
 unfolding taken_said
-returns-in-Passed c =
-    let chosen : choice_of c.args.mode ≡ Chosen c.in-Chosen.rule = sym c.rule_of.ensures ∙ c.in-Chosen.is in
+returns c =
+    let chosen : choice_of c.args.mode ≡ Ok c.in_ok-rule.rule = sym c.try_from.ensures ∙ c.in_ok-rule.was in
     let a = c.args in
     let net : T (fits binary64 a.given.net) = search rules in
     let tax : T (fits binary64 a.given.tax) = search rules in
     let value = made_said (rule_of a.mode) a.currency a.scale a.given.net a.given.tax in
-    let rule = c.in-Chosen.rule in
+    let rule = c.in_ok-rule.rule in
     c.made.ensures
     ∙ ap₂ (made_said rule a.currency a.scale) (own_bits a.given.net c.bits_of.result net c.bits_of.ensures)
-    (own_bits a.given.tax c.bits_of-in-Passed.result tax c.bits_of-in-Passed.ensures)
+    (own_bits a.given.tax c.bits_of-2.result tax c.bits_of-2.ensures)
     ∙ ap (λ (x : Rule). made_said x a.currency a.scale a.given.net a.given.tax) (sym (rule_chosen a.mode rule chosen))
     ∙ sym
     (mode_chosen value (given_rows a.scale a.currency) a.mode rule chosen
-    ∙ passed value (given_rows a.scale a.currency) (sym c.check_given.ensures ∙ c.in-Passed.is))
+    ∙ passed value (given_rows a.scale a.currency) (sym c.check_given.ensures ∙ c.in_ok-check_given.was))

@@ -1,10 +1,10 @@
 -- What passed the check is within the limits of the steps, and the amount's coefficient is its sign and its magnitude. Assumes nothing.
+use Rattle.std.specs.Prelude.{Ok}
 use mathlib.Core.Path.{◌≡◌, sym, ◌∙◌, ap, ap₂}
 use Prim.Native.Nat.{ℕ, ◌≤◌}
 use borrow.Author.Rules.{rules}
 use borrow.Author.Tests.{eq-eqb, ne_eqb, ltb-false}
 use lib.IntN.{ℤ}
-use Rattle.refusal.specs.declared.Checked.TheVariants.{Passed}
 use Rattle.refusal.specs.Rows.{Said, gives, check_of}
 use Rattle.refusal.proofs.Check.{clear}
 use Rattle.whole.specs.Whole.{negative, magnitude_of, signed_of}
@@ -18,7 +18,7 @@ use Rattle.euro.specs.Conversion.{convert_rows, exchanged, converted}
 use Rattle.euro.proofs.conversion.accepted.Goals as goal
 
 -- what passed the check
-within : (decimals scale m : ℕ) (from to : Currency) → check_of (convert_rows decimals scale m from to) ≡ Passed
+within : (decimals scale m : ℕ) (from to : Currency) → check_of (convert_rows decimals scale m from to) ≡ Ok tt
     → (decimals ≤ most_decimals) × (from.0 ≤ last_currency) × (to.0 ≤ last_currency) × (m ≤ largest)
 unfolding convert_rows
 within decimals scale m from to e =

@@ -34,12 +34,12 @@ pub returns-then-step-gt-L : goal.returns-then-step-gt-L
 returns-then-step-gt-L c =
     let a = c.args in
     let places = decimals_of a.decimals a.from a.to in
-    let is = computed places _ a.from (signed_of a.negative a.m) _ c.into_euro-step.ensures c.step_decimals-places.ensures in
+    let is = computed places _ a.from (signed_of a.negative a.m) _ (c.into_euro-step.ensures a.negative) c.step_decimals-places.ensures in
     over_limit places a.to (into_euro places a.from (signed_of a.negative a.m)) (subst (λ (n : ℕ). largest < n) is c.if-step-gt-L.true)
     ∙ exchanges a.decimals a.from a.to a.negative a.m c.requires.3 c.requires.4
 
 pub settle-requires : goal.settle-requires
-settle-requires c = rw c.out_of_euro.ensures (capped_least _)
+settle-requires c = rw (c.out_of_euro.ensures c.args.negative) (capped_least _)
 
 pub returns : goal.returns
 returns c =
@@ -48,12 +48,12 @@ returns c =
     let step = into_euro places a.from (signed_of a.negative a.m) in
     let d = c.step_decimals-places in
     let n = c.into_euro-step.result in
-    let is_capped = computed places _ a.from (signed_of a.negative a.m) _ c.into_euro-step.ensures d.ensures in
+    let is_capped = computed places _ a.from (signed_of a.negative a.m) _ (c.into_euro-step.ensures a.negative) d.ensures in
     let small = subst (λ (k : ℕ). k ≤ largest) is_capped c.if-step-gt-L.false in
     let is : signed_of a.negative n ≡ step =
     ap (signed_of a.negative) (is_capped ∙ same (magnitude_of step) small) ∙ into_sign places a.negative a.m a.from in
     c.settle.ensures
-    ∙ ap (λ (k : ℕ). settled a.to (signed_of a.negative k)) c.out_of_euro.ensures
+    ∙ ap (λ (k : ℕ). settled a.to (signed_of a.negative k)) (c.out_of_euro.ensures a.negative)
     ∙ settles a.to a.negative (out_of_euro d.result a.to (signed_of a.negative n)) (out_sign d.result a.negative n a.to)
     ∙ ap₂ (λ (k : ℕ) (z : ℤ). settled a.to (out_of_euro k a.to z)) d.ensures is
     ∙ within places a.to step small

@@ -1,10 +1,6 @@
 -- After each turn one byte more stands in the list. Assumes nothing.
-use Prim.Native.Nat.{◌-◌}
 use Rattle.hexadecimal.proofs.Pairs.{Filled}
 use Rattle.hexadecimal.proofs.reading.fill.Given as goal
 
 abbrev pub invariant-loop-i : goal.invariant-loop-i
-invariant-loop-i l = Filled l.word l.initial.bytes l.count l.bytes l.i
-
-abbrev pub decreases-loop-i : goal.decreases-loop-i
-decreases-loop-i l = l.count - l.i
+invariant-loop-i l = Filled l.word l.initial.bytes l.bytes l.i

@@ -5,7 +5,7 @@ use Rattle.intake.proofs.Words.{Taken}
 use Rattle.intake.proofs.numbers.read_numbers.Given as goal
 
 abbrev pub invariant-loop-at : goal.invariant-loop-at
-invariant-loop-at l = Taken l.line l.from l.initial.signs l.initial.values l.signs l.values l.at l.count
+invariant-loop-at l = Taken l.line l.from l.initial.numbers l.numbers l.at l.count
 
 abbrev pub decreases-loop-at : goal.decreases-loop-at
 decreases-loop-at l = length l.line - l.at

@@ -1,22 +1,17 @@
--- The loop's invariant: reach is ten to the count so far, and no more than ten times the number, or ten. Assumes nothing.
-use mathlib.Core.Path.{◌≡◌, ◌∙◌, ap}
-use Prim.Native.Nat.{ℕ, ◌+◌, ◌*◌, ◌^◌, ◌≤◌}
-use native.Mathlib.Nat.{pow-suc, pow-le-pow_right}
+-- A number has one digit more than the largest power of ten below it has zeros. Assumes nothing.
+use Prim.Native.Nat.{◌+◌, ◌*◌, ◌^◌}
+use mathlib.Core.Path.{◌≡◌}
+use native.Mathlib.Nat.{pow-suc}
 use native.Mathlib.Numerals.{add-one}
 use native.Mathlib.Omega.{arith}
 use Rattle.lines.proofs.Fills.{counted}
 use Rattle.lines.proofs.texts.places.Goals as goal
 
-pub returns-then-count-eq19 : goal.returns-then-count-eq19
-returns-then-count-eq19 c = let l = c in
-    let e : l.loop-reach.reach ≡ 10 ^ 19 = l.loop-reach.invariant.2 ∙ ap (λ (k : ℕ). 10 ^ k) c.if-count-eq19.true in
-    counted 20 l.args.m (omega arith) (omega arith) (omega arith) (omega arith)
+pub returns-in-Some : goal.returns-in-Some
+returns-in-Some c =
+    let k = c.in-Some.tens in
+    let power : 10 ^ (k + 1) ≡ 10 * 10 ^ k = rw add-one (omega (arith, pow-suc 10 k)) in
+    counted (k + 1) c.args.m (omega arith) (omega (arith, c.in-Some.ensures)) (omega (arith, c.in-Some.ensures)) (omega (arith, c.in-Some.ensures))
 
-pub overflow_mul-reach : goal.overflow_mul-reach
-overflow_mul-reach c = let l = c in
-    let small : 10 ^ l.loop-reach.count ≤ 10 ^ 18 = pow-le-pow_right {n = 10} (omega arith) {j = 18} (omega arith) in
-    omega arith
-
-pub returns : goal.returns
-returns c = let l = c in
-    counted l.loop-reach.count l.args.m (omega arith) (omega arith) (omega arith) (omega arith)
+pub returns-in-None : goal.returns-in-None
+returns-in-None c = counted 1 c.args.m (omega arith) (omega arith) (omega (arith, c.in-None.ensures)) (omega arith)

@@ -3,7 +3,7 @@ use mathlib.Core.Path.{◌≡◌, sym, ◌∙◌}
 use mathlib.Core.List.{◌∷◌}
 use Prim.Native.Nat.{suc, ◌+◌, ◌≤◌}
 use native.Mathlib.Omega.{arith}
-use lib.ListN.{length, length-set}
+use lib.ListN.{length}
 use Rattle.lines.specs.Texts.{decimal}
 use Rattle.lines.proofs.Fills.{no_room, behind, put_first}
 use Rattle.lines.proofs.texts.put_negative.Goals as goal

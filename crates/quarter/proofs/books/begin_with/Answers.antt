@@ -1,8 +1,9 @@
--- The opening is that of the outcome, and the book the library's. Assumes nothing.
-use Rattle.std.proofs.Common.{rules}
-use Rattle.quarter.specs.Books.{begun_with}
+-- By the answer of the library's opening. Assumes nothing.
+use Rattle.quarter.proofs.Opened.{accepted, refused}
 use Rattle.quarter.proofs.books.begin_with.Goals as goal
 
-pub returns : goal.returns
-unfolding begun_with
-returns c = search rules
+pub returns-in-Ok : goal.returns-in-Ok
+returns-in-Ok c = accepted _ _ _ _ c.in-Ok.ensures
+
+pub returns-in-Err : goal.returns-in-Err
+returns-in-Err c = rw c.no_book.ensures (refused _ _ _ _ c.in-Err.ensures)

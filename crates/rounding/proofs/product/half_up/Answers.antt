@@ -1,6 +1,4 @@
 -- The sum fits, and its quotient is the rule's. Assumes nothing.
-use native.Mathlib.Nat.{div-le_self}
-use native.Mathlib.Omega.{arith}
 use Rattle.rounding.proofs.HalfUp.{half_added}
 use Rattle.rounding.proofs.product.half_up.Goals as goal
 

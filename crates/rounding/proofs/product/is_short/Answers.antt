@@ -1,7 +1,5 @@
 -- Each test is the definition's. Assumes nothing.
-use native.Mathlib.Omega.{arith}
 use borrow.Author.Tests.{le-leb, lt-leb}
-use lib.Count.{leading_le}
 use Rattle.rounding.specs.Short.{is_short}
 use Rattle.rounding.proofs.product.is_short.Goals as goal
 

@@ -1,10 +1,6 @@
 -- Each turn lays unit m + 1 down in its slot, and carries the quotient to the next. Assumes nothing.
-use Prim.Native.Nat.{◌-◌}
 use Rattle.running.proofs.Laid.{Laid}
 use Rattle.running.proofs.window.lay.Given as goal
 
 abbrev pub invariant-loop-m : goal.invariant-loop-m
-invariant-loop-m l = Laid l.weight l.sum l.u l.first l.full l.initial.slots l.m l.q l.r l.slots
-
-abbrev pub decreases-loop-m : goal.decreases-loop-m
-decreases-loop-m l = l.full - l.m
+invariant-loop-m l = Laid l.weight l.sum l.u l.first l.full l.initial.slots l._m l.q l.r l.slots

@@ -2,7 +2,6 @@
 -- whose sum never goes past it. Assumes nothing.
 use mathlib.Core.Path.{◌∙◌}
 use native.Mathlib.Omega.{arith}
-use borrow.Author.Rules.{rules}
 use lib.ListN.{get_or}
 use Rattle.whole.proofs.Lists.{fill_none, fill_more, copy_all}
 use Rattle.whole.proofs.Sums.{sum_to}
@@ -25,21 +24,21 @@ nonzero_rem-part c =
 
 pub loop-i-init : goal.loop-i-init
 unfolding sum_to
-loop-i-init c = (search rules, fill_none 0 _ _, fill_none 0 _ _, omega arith)
+loop-i-init c = (fill_none 0 _ _, fill_none 0 _ _, omega arith)
 
 pub overflow_mul-product : goal.overflow_mul-product
 overflow_mul-product c =
     let total_is = c.weigh-total.ensures ∙ weighed_sum c.args.weights.now (omega arith) in
     let a = c.args in
     let at = c.loop-i in
-    omega (arith, product_small a.m a.weights.now c.weigh-total.result at.i total_is (omega arith) (omega arith))
+    rw c.from-weight.ensures (omega (arith, product_small a.m a.weights.now c.weigh-total.result at.i total_is (omega arith) (omega arith)))
 
 pub overflow_mul-share : goal.overflow_mul-share
 overflow_mul-share c =
     let total_is = c.weigh-total.ensures ∙ weighed_sum c.args.weights.now (omega arith) in
     let a = c.args in
     let at = c.loop-i in
-    omega (arith, share_at a.m a.weights.now c.weigh-total.result at.i total_is (omega arith), enough a.m a.weights.now (omega arith) at.i at.left at.invariant.3 (omega arith))
+    rw c.from-weight.ensures (omega (arith, share_at a.m a.weights.now c.weigh-total.result at.i total_is (omega arith), enough a.m a.weights.now (omega arith) at.i at.left at.invariant.2 (omega arith)))
 
 pub nonzero_div-share : goal.nonzero_div-share
 nonzero_div-share c =
@@ -51,7 +50,7 @@ overflow_add-share c =
     let total_is = c.weigh-total.ensures ∙ weighed_sum c.args.weights.now (omega arith) in
     let a = c.args in
     let at = c.loop-i in
-    omega (arith, share_at a.m a.weights.now c.weigh-total.result at.i total_is (omega arith), enough a.m a.weights.now (omega arith) at.i at.left at.invariant.3 (omega arith))
+    rw c.from-weight.ensures (omega (arith, share_at a.m a.weights.now c.weigh-total.result at.i total_is (omega arith), enough a.m a.weights.now (omega arith) at.i at.left at.invariant.2 (omega arith)))
 
 pub nonzero_rem-rests : goal.nonzero_rem-rests
 nonzero_rem-rests c =
@@ -63,7 +62,7 @@ overflow_sub-left c =
     let total_is = c.weigh-total.ensures ∙ weighed_sum c.args.weights.now (omega arith) in
     let a = c.args in
     let at = c.loop-i in
-    omega (arith, share_at a.m a.weights.now c.weigh-total.result at.i total_is (omega arith), enough a.m a.weights.now (omega arith) at.i at.left at.invariant.3 (omega arith))
+    rw c.from-weight.ensures (omega (arith, share_at a.m a.weights.now c.weigh-total.result at.i total_is (omega arith), enough a.m a.weights.now (omega arith) at.i at.left at.invariant.2 (omega arith)))
 
 pub loop-i-preserved : goal.loop-i-preserved
 loop-i-preserved c =
@@ -71,17 +70,17 @@ loop-i-preserved c =
     let a = c.args in
     let at = c.loop-i in
     let share = share_at a.m a.weights.now c.weigh-total.result at.i total_is (omega arith) in
-    let rest = rest_at a.m a.weights.now c.weigh-total.result at.i total_is (omega arith) in (
-      omega arith,
-      fill_more 0 (λ k. get_or (rounded_down a.m a.weights.now) k 0) a.shares.now at.shares at.i at.i _ at.invariant.1 (omega arith) share,
-      fill_more 0 (λ k. get_or (remainders a.m a.weights.now) k 0) a.rests.now at.rests at.i at.i _ at.invariant.2 (omega arith) rest,
-      rw share (less_left a.m a.weights.now (omega arith) at.i at.left at.invariant.3 (omega arith)),
+    let rest = rest_at a.m a.weights.now c.weigh-total.result at.i total_is (omega arith) in
+    rw c.from-weight.ensures (
+      fill_more 0 (λ k. get_or (rounded_down a.m a.weights.now) k 0) a.shares.now at.shares at.i at.i _ at.invariant.0 (omega arith) share,
+      fill_more 0 (λ k. get_or (remainders a.m a.weights.now) k 0) a.rests.now at.rests at.i at.i _ at.invariant.1 (omega arith) rest,
+      rw share (less_left a.m a.weights.now (omega arith) at.i at.left at.invariant.2 (omega arith)),
     )
 
 pub returns : goal.returns
 returns c = let a = c.args in
     let at = c.loop-i in record {
-      left = all_left a.m a.weights.now (omega arith) at.i at.left at.invariant.3 (omega arith);
-      shares = copy_all 0 (rounded_down a.m a.weights.now) a.shares.now at.shares at.i at.invariant.1 (omega (arith, rounded_length a.m a.weights.now)) (omega arith);
-      rests = copy_all 0 (remainders a.m a.weights.now) a.rests.now at.rests at.i at.invariant.2 (omega (arith, remainders_length a.m a.weights.now)) (omega arith);
+      left = all_left a.m a.weights.now (omega arith) at.i at.left at.invariant.2 (omega arith);
+      shares = copy_all 0 (rounded_down a.m a.weights.now) a.shares.now at.shares at.i at.invariant.0 (omega (arith, rounded_length a.m a.weights.now)) (omega arith);
+      rests = copy_all 0 (remainders a.m a.weights.now) a.rests.now at.rests at.i at.invariant.1 (omega (arith, remainders_length a.m a.weights.now)) (omega arith);
     }

@@ -5,7 +5,6 @@ use mathlib.Core.List.{List}
 use Prim.Native.Nat.{ℕ, ◌+◌, ◌≤◌, ◌<◌, ◌^◌}
 use native.Mathlib.Numerals.{add-one}
 use native.Mathlib.Omega.{arith}
-use borrow.Author.Rules.{rules}
 use lib.ListN.{length}
 use Rattle.whole.specs.Sums.{sum_of}
 use Rattle.remainder.specs.Rule.{Handed, serve, hand_out}
@@ -29,12 +28,12 @@ module _ (h : Handed) (given : ℕ) (ss rs : List ℕ) (shares : ss ≡ (hand_ou
 
 pub loop-given-init : goal.loop-given-init
 unfolding hand_out
-loop-given-init c = (search rules, refl, refl)
+loop-given-init c = (refl, refl)
 
 pub serve_one-requires : goal.serve_one-requires
 serve_one-requires c = let a = c.args in
     let at = c.loop-given in
-    let all = ready (record { shares = a.shares.now; unserved = a.rests.now }) at.given at.shares at.rests at.invariant.1 at.invariant.2
+    let all = ready (record { shares = a.shares.now; unserved = a.rests.now }) at._given at.shares at.rests at.invariant.0 at.invariant.1
     (omega arith) (omega arith) (omega arith) in record { in_bounds = all.0; rests_len = all.1.0; shares_bound = all.1.1 }
 
 pub loop-given-preserved : goal.loop-given-preserved
@@ -42,6 +41,6 @@ loop-given-preserved c = let a = c.args in
     let at = c.loop-given in
     let served = c.serve_one in
     let after =
-    next (record { shares = a.shares.now; unserved = a.rests.now }) at.given at.shares at.rests at.invariant.1 at.invariant.2
+    next (record { shares = a.shares.now; unserved = a.rests.now }) at._given at.shares at.rests at.invariant.0 at.invariant.1
     served.new.shares served.new.rests served.ensures.shares served.ensures.rests in
-    (omega arith, after.0, after.1)
+    (after.0, after.1)

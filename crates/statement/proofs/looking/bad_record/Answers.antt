@@ -11,14 +11,14 @@ pub returns-then-bad_head : goal.returns-then-bad_head
 returns-then-bad_head c =
     let a = c.args in
     let head = c.bad_head.ensures ∙ ap (λ (n : ℕ). bad_head n a.agreed) c.eight_at.ensures in
-    bad_by_head a.reasons a.bytes.now (λ i. (c.type_inv.bytes i).fits) a.agreed a.at (sym head ∙ c.if-bad_head.true)
+    bad_by_head a.version a.bytes.now (λ i. (c.type_inv.bytes i).fits) a.agreed a.at (sym head ∙ c.if-bad_head.true)
 
 pub returns-then-bad_word : goal.returns-then-bad_word
 returns-then-bad_word c =
     let a = c.args in
     let head = c.bad_head.ensures ∙ ap (λ (n : ℕ). bad_head n a.agreed) c.eight_at.ensures in
     let word = c.bad_word.ensures ∙ ap (λ (n : ℕ). over_l (magnitude_of (from_word n))) c.eight_at-2.ensures in
-    bad_by_word a.reasons a.bytes.now (λ i. (c.type_inv.bytes i).fits) a.agreed a.at (sym head ∙ c.if-bad_head.false) (sym word ∙ c.if-bad_word.true)
+    bad_by_word a.version a.bytes.now (λ i. (c.type_inv.bytes i).fits) a.agreed a.at (sym head ∙ c.if-bad_head.false) (sym word ∙ c.if-bad_word.true)
 
 pub returns : goal.returns
 returns c =
@@ -26,4 +26,4 @@ returns c =
     let head = c.bad_head.ensures ∙ ap (λ (n : ℕ). bad_head n a.agreed) c.eight_at.ensures in
     let word = c.bad_word.ensures ∙ ap (λ (n : ℕ). over_l (magnitude_of (from_word n))) c.eight_at-2.ensures in
     c.bad_code.ensures
-    ∙ bad_by_code a.reasons a.bytes.now (λ i. (c.type_inv.bytes i).fits) a.agreed a.at (sym head ∙ c.if-bad_head.false) (sym word ∙ c.if-bad_word.false)
+    ∙ bad_by_code a.version a.bytes.now (λ i. (c.type_inv.bytes i).fits) a.agreed a.at (sym head ∙ c.if-bad_head.false) (sym word ∙ c.if-bad_word.false)

@@ -1,29 +1,32 @@
--- None of the records passed is bad, and the sum so far is theirs; the walk stands at the next one. Assumes nothing.
-use Rattle.std.proofs.Common.{ℕ, ℤ, ◌≡◌, ◌+◌, ◌<◌, Bool, false, List, w64, to_z, of_z, sym, ap, ap₂, ◌∙◌, arith, rules}
+-- None of the records passed is bad, and the sum so far is theirs. Assumes nothing.
+use Rattle.std.proofs.Common.{refl, ℕ, ℤ, ◌≡◌, ◌+◌, ◌*◌, ◌<◌, Bool, false, List, w64, to_z, of_z, sym, ap, ap₂, ◌∙◌, arith}
 use Rattle.whole.proofs.Laws.{read_back}
 use Rattle.statement.specs.Files.{record_width, most_records}
 use Rattle.statement.specs.Writing.{any_of}
 use Rattle.statement.specs.Reading.{record_place, agreed_in, bad_record, coefficient_at, coefficients_in}
 use Rattle.statement.specs.Parts.{Few}
+use Rattle.statement.specs.declared.Version.{Version}
 use Rattle.statement.proofs.ReadBack.{number_below}
 use Rattle.statement.proofs.Any.{none_yet, still_none, found}
 use Rattle.statement.proofs.Totals.{total_none, sum_fits, sum_more}
-use Rattle.statement.proofs.Walk.{walk_start, walk_on}
 use Rattle.statement.proofs.Accepted.{all_small}
 use Rattle.statement.proofs.looking.check_records.Goals as goal
 
-module _ (reasons : Bool) (bytes : List ℕ) (first : ℕ) where
+module _ (version : Version) (bytes : List ℕ) (first : ℕ) where
   -- whether a record of the file is bad
   abbrev bad_at : ℕ → Bool
-  bad_at i = bad_record reasons bytes (agreed_in bytes first) (record_place (record_width reasons) first i)
+  bad_at i = bad_record version bytes (agreed_in bytes first) (record_place (record_width version) first i)
 
-  module _ (i at : ℕ) (here : at ≡ record_place (record_width reasons) first i) where
-    -- what the walk looked at is that record
-    looked : (agreed : ℕ) (bad : Bool) → agreed ≡ agreed_in bytes first → bad ≡ bad_record reasons bytes agreed at → bad_at i ≡ bad
-    looked agreed bad agrees is = sym (is ∙ ap₂ (bad_record reasons bytes) agrees here)
+  module _ (i width : ℕ) (wide : width ≡ record_width version) where
+    here : first + width * i ≡ record_place (record_width version) first i
+    here = ap (λ (w : ℕ). first + w * i) wide
 
-    -- and what it read is that record's coefficient
-    read : (z : ℤ) → to_z w64 (of_z w64 z) ≡ z → z ≡ coefficient_at bytes at → to_z w64 (of_z w64 z) ≡ coefficients_in bytes (record_width reasons) first i
+    -- what was looked at is that record
+    looked : (agreed : ℕ) (bad : Bool) → agreed ≡ agreed_in bytes first → bad ≡ bad_record version bytes agreed (first + width * i) → bad_at i ≡ bad
+    looked agreed bad agrees is = sym (is ∙ ap₂ (bad_record version bytes) agrees here)
+
+    -- and what was read is that record's coefficient
+    read : (z : ℤ) → to_z w64 (of_z w64 z) ≡ z → z ≡ coefficient_at bytes (first + width * i) → to_z w64 (of_z w64 z) ≡ coefficients_in bytes (record_width version) first i
     read z held is = held ∙ is ∙ ap (coefficient_at bytes) here
 
   -- a record more that is not bad
@@ -31,17 +34,13 @@ module _ (reasons : Bool) (bytes : List ℕ) (first : ℕ) where
     still : any_of bad_at (i + 1) ≡ false
     still = still_none bad_at i none good
 
-    small : Few (coefficients_in bytes (record_width reasons) first) (i + 1)
-    small = all_small reasons bytes first (i + 1) (omega arith) still
+    small : Few (coefficients_in bytes (record_width version) first) (i + 1)
+    small = all_small version bytes first (i + 1) (omega arith) still
 
 pub loop-i-init : goal.loop-i-init
 loop-i-init c =
-    let a = c.args in (
-      search rules,
-      walk_start (record_width a.reasons) a.first,
-      none_yet (bad_at a.reasons a.bytes.now a.first),
-      sym (total_none (coefficients_in a.bytes.now (record_width a.reasons) a.first)),
-    )
+    let a = c.args in
+    (none_yet (bad_at a.version a.bytes.now a.first), sym (total_none (coefficients_in a.bytes.now (record_width a.version) a.first)))
 
 pub bad_record-requires-clause-agreed_bound : goal.bad_record-requires-clause-agreed_bound
 bad_record-requires-clause-agreed_bound c =
@@ -52,27 +51,25 @@ pub returns-then-bad_record : goal.returns-then-bad_record
 returns-then-bad_record c =
     let a = c.args in
     let at = c.loop-i in
-    let bad = looked a.reasons a.bytes.now a.first at.i at.at at.invariant.1 _ _ c.number_at-agreed.ensures c.bad_record.ensures ∙ c.if-bad_record.true in
-    rw (found (bad_at a.reasons a.bytes.now a.first) a.count at.i (omega arith) bad)
+    let bad = looked a.version a.bytes.now a.first at.i c.width.result c.width.ensures _ _ c.number_at-agreed.ensures c.bad_record.ensures ∙ c.if-bad_record.true in
+    rw (found (bad_at a.version a.bytes.now a.first) a.count at.i (omega arith) bad)
 
-pub add-sum-requires : goal.add-sum-requires
-add-sum-requires c =
+pub overflow_add-sum : goal.overflow_add-sum
+overflow_add-sum c =
     let a = c.args in
     let at = c.loop-i in
-    let z = c.coefficient_at.result in
-    let good = looked a.reasons a.bytes.now a.first at.i at.at at.invariant.1 _ _ c.number_at-agreed.ensures c.bad_record.ensures ∙ c.if-bad_record.false in
-    sum_fits (coefficients_in a.bytes.now (record_width a.reasons) a.first) (at.i + 1) (small a.reasons a.bytes.now a.first at.i (omega arith) at.invariant.2 good)
-    at.i _ at.invariant.3 (omega arith) _ (read a.reasons a.bytes.now a.first at.i at.at at.invariant.1 z (read_back z c.coefficient_at.type_inv) c.coefficient_at.ensures)
+    let z = c.coefficient_at-sum.result in
+    let good = looked a.version a.bytes.now a.first at.i c.width.result c.width.ensures _ _ c.number_at-agreed.ensures c.bad_record.ensures ∙ c.if-bad_record.false in
+    sum_fits (coefficients_in a.bytes.now (record_width a.version) a.first) (at.i + 1) (small a.version a.bytes.now a.first at.i (omega arith) at.invariant.0 good)
+    at.i _ at.invariant.1 (omega arith) _ (read a.version a.bytes.now a.first at.i c.width.result c.width.ensures z (read_back z c.coefficient_at-sum.type_inv) c.coefficient_at-sum.ensures)
 
 pub loop-i-preserved : goal.loop-i-preserved
 loop-i-preserved c =
     let a = c.args in
     let at = c.loop-i in
-    let z = c.coefficient_at.result in
-    let good = looked a.reasons a.bytes.now a.first at.i at.at at.invariant.1 _ _ c.number_at-agreed.ensures c.bad_record.ensures ∙ c.if-bad_record.false in (
-      omega arith,
-      ap (λ (w : ℕ). at.at + w) c.width_of-width.ensures ∙ walk_on (record_width a.reasons) a.first at.i at.at at.invariant.1,
-      still a.reasons a.bytes.now a.first at.i (omega arith) at.invariant.2 good,
-      sum_more (coefficients_in a.bytes.now (record_width a.reasons) a.first) (at.i + 1) (small a.reasons a.bytes.now a.first at.i (omega arith) at.invariant.2 good)
-          at.i _ at.invariant.3 (omega arith) _ (read a.reasons a.bytes.now a.first at.i at.at at.invariant.1 z (read_back z c.coefficient_at.type_inv) c.coefficient_at.ensures) c.add-sum.result c.add-sum.ensures,
+    let z = c.coefficient_at-sum.result in
+    let good = looked a.version a.bytes.now a.first at.i c.width.result c.width.ensures _ _ c.number_at-agreed.ensures c.bad_record.ensures ∙ c.if-bad_record.false in (
+      still a.version a.bytes.now a.first at.i (omega arith) at.invariant.0 good,
+      sum_more (coefficients_in a.bytes.now (record_width a.version) a.first) (at.i + 1) (small a.version a.bytes.now a.first at.i (omega arith) at.invariant.0 good)
+          at.i _ at.invariant.1 (omega arith) _ (read a.version a.bytes.now a.first at.i c.width.result c.width.ensures z (read_back z c.coefficient_at-sum.type_inv) c.coefficient_at-sum.ensures) _ refl,
     )

@@ -1,18 +1,16 @@
--- The places passed hold the number's first bytes, and what is left of the number has the others. Assumes nothing.
+-- The first bytes of the number as a word stand in the part. Assumes nothing.
+use mathlib.Core.Path.{◌∙◌, ap}
 use native.Mathlib.Omega.{arith}
-use Rattle.statement.proofs.Putting.{put_rest, put_more, put_all}
+use Prim.Native.Nat.{◌+◌, ◌-◌}
+use lib.ListN.{take}
+use Rattle.statement.specs.Bytes.{little_endian}
+use Rattle.statement.proofs.ReadBack.{length_little}
+use Rattle.statement.proofs.Putting.{first_bytes, put_in}
 use Rattle.statement.proofs.numbers.put_number.Goals as goal
 
-pub loop-i-preserved : goal.loop-i-preserved
-loop-i-preserved c = let start = c in
-    let a = start.args in
-    let at = c.loop-i in (
-      omega arith,
-      put_more a.out.now a.at a.count a.number at.i at.rest c.loop-i-test.true at.invariant.2 at.out at.invariant.1 start.requires,
-      put_rest a.out.now a.at a.count a.number at.i at.rest c.loop-i-test.true at.invariant.2,
-    )
-
 pub returns : goal.returns
-returns c = let a = c.args in
-    let at = c.loop-i in
-    put_all a.out.now a.at a.count a.number at.out at.i (omega arith) at.invariant.1
+returns c =
+    let a = c.args in
+    put_in a.out.now (little_endian a.count a.number) c.copy_from_slice.new.self a.at (a.at + a.count - a.at)
+    (c.copy_from_slice.ensures.after ∙ ap (take a.count) c.to_le_bytes.ensures ∙ first_bytes a.count a.number c.requires.count_bound)
+    (omega (arith, length_little a.count a.number))

@@ -1,35 +1,43 @@
 -- What the check lets pass is a file of the version that its trailer holds. Assumes nothing.
-use mathlib.Core.Path.{◌≡◌, sym, ◌∙◌, ap}
-use mathlib.Core.Path.{subst}
-use mathlib.Core.Bool.{Bool}
-use Rattle.refusal.specs.declared.Checked.TheVariants.{Passed}
-use Rattle.refusal.specs.Rows.{gives, check_of}
+use Rattle.std.specs.Prelude.{Ok, Err}
+use Rattle.std.proofs.lemmas.Result.{err_from_is_err_and}
+use mathlib.Core.Path.{◌≡◌, sym, ◌∙◌, ap, ap₂, subst}
+use Prim.Native.Nat.{ℕ}
+use Rattle.refusal.specs.Rows.{gives, check_of, means}
 use Rattle.refusal.proofs.Check.{passed, refused}
-use Rattle.statement.specs.Reading.{reasons_in, version_rows, any_rows, summary_in, any_said}
+use Rattle.statement.specs.declared.Version.{Version}
+use Rattle.statement.specs.declared.Summary.{Summary}
+use Rattle.statement.specs.Files.{version_of}
+use Rattle.statement.specs.Reading.{version_in, version_rows, any_rows, summary_in, summary_of_any, any_said}
 use Rattle.statement.proofs.Accepted.{accepted}
 use Rattle.statement.proofs.reading.check_any.Goals as goal
 
-pub has_reasons-requires : goal.has_reasons-requires
+pub version_in-version-requires : goal.version_in-version-requires
 unfolding any_rows
-has_reasons-requires c =
-    let through : check_of (version_rows (reasons_in c.args.bytes.now) c.args.bytes.now) ≡ Passed = sym c.check_any_file.ensures ∙ c.in-Passed.is in
+version_in-version-requires c =
     let bytes = c.args.bytes.now in
-    (accepted (reasons_in bytes) bytes through).0
+    let through : check_of (version_rows (version_in bytes) bytes) ≡ Ok tt = sym c.check_any_file.ensures ∙ c.in_ok-check_any_file.was in
+    (accepted (version_in bytes) bytes through).0
 
 pub summary_in-requires : goal.summary_in-requires
 unfolding any_rows
 summary_in-requires c =
-    let through : check_of (version_rows (reasons_in c.args.bytes.now) c.args.bytes.now) ≡ Passed = sym c.check_any_file.ensures ∙ c.in-Passed.is in
     let bytes = c.args.bytes.now in
-    subst (λ (r : Bool). check_of (version_rows r bytes) ≡ Passed) (sym c.has_reasons.ensures) through
+    let through : check_of (version_rows (version_in bytes) bytes) ≡ Ok tt = sym c.check_any_file.ensures ∙ c.in_ok-check_any_file.was in
+    subst (λ (v : Version). check_of (version_rows v bytes) ≡ Ok tt) (sym c.version_in-version.ensures) through
 
-pub returns-in-Refused : goal.returns-in-Refused
+pub returns-in_err-check_any_file : goal.returns-in_err-check_any_file
 unfolding any_said
-returns-in-Refused c = let bytes = c.args.bytes.now in
-    sym (refused (gives (summary_in (reasons_in bytes) bytes)) (any_rows bytes) c.in-Refused.refusal (sym c.check_any_file.ensures ∙ c.in-Refused.is))
+returns-in_err-check_any_file c =
+    let bytes = c.args.bytes.now in
+    let p = err_from_is_err_and c.from_residual.result c.from_residual.ensures.1 in
+    ap means (p.1 ∙ ap Err p.2)
+    ∙ sym (refused (gives (summary_of_any bytes)) (any_rows bytes) c.in_err-check_any_file.field-0.0 (sym c.check_any_file.ensures ∙ c.in_err-check_any_file.was))
 
-pub returns-in-Passed : goal.returns-in-Passed
+pub returns : goal.returns
 unfolding any_said
-returns-in-Passed c = let bytes = c.args.bytes.now in
-    ap gives (c.summary_in.ensures ∙ ap (λ (r : Bool). summary_in r bytes) c.has_reasons.ensures)
-    ∙ sym (passed (gives (summary_in (reasons_in bytes) bytes)) (any_rows bytes) (sym c.check_any_file.ensures ∙ c.in-Passed.is))
+returns c =
+    let bytes = c.args.bytes.now in
+    let is = c.version_in-version.ensures in
+    ap₂ (λ (n : ℕ) (s : Summary). gives (record { version = n; summary = s })) (c.number.ensures ∙ ap version_of is) (c.summary_in.ensures ∙ ap (λ (v : Version). summary_in v bytes) is)
+    ∙ sym (passed (gives (summary_of_any bytes)) (any_rows bytes) (sym c.check_any_file.ensures ∙ c.in_ok-check_any_file.was))

@@ -9,7 +9,7 @@ use mir.Val.{to_z, of_z}
 use mir.ValLaws.{to_z-of_z}
 use Rattle.statement.specs.Bytes.{pasted}
 use lib.ListN.{length, take, drop}
-use Rattle.statement.specs.Files.{trailer_bytes}
+use Rattle.statement.specs.Files.{version_of, record_width, trailer_bytes}
 use Rattle.statement.proofs.Pasting.{paste_lent}
 use Rattle.statement.proofs.records.put_trailer_at.Goals as goal
 
@@ -19,5 +19,5 @@ returns c = let start = c in
     let old = a.out.now in
     let held = to_z w64 (of_z w64 a.sum) in
     ap (λ (ys : List ℕ). take a.at old ++ (ys ++ drop (length old - a.at) (drop a.at old))) c.put_trailer.ensures
-    ∙ paste_lent a.at (trailer_bytes a.width a.count held a.version) old (omega arith)
-    ∙ ap (λ (z : ℤ). pasted a.at (trailer_bytes a.width a.count z a.version) old) (to_z-of_z w64 a.sum start.ranges.sum)
+    ∙ paste_lent a.at (trailer_bytes (record_width a.version) a.count held (version_of a.version)) old (omega arith)
+    ∙ ap (λ (z : ℤ). pasted a.at (trailer_bytes (record_width a.version) a.count z (version_of a.version)) old) (to_z-of_z w64 a.sum start.ranges.sum)

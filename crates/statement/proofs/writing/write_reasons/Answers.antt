@@ -1,28 +1,35 @@
 -- A refused check leaves the buffer as it stood; what passed has room for its file. Assumes nothing.
-use mathlib.Core.Path.{sym, ◌∙◌}
-use mathlib.Core.Bool.{true}
+use Rattle.std.specs.Prelude.{Err}
+use Rattle.std.proofs.lemmas.Result.{err_from_is_err_and}
+use mathlib.Core.Path.{sym, ◌∙◌, ap}
 use Prim.Native.Nat.{◌+◌}
 use lib.ListN.{length}
+use Rattle.refusal.specs.Rows.{means}
+use Rattle.statement.specs.declared.Version.TheVariants.{Reasons}
 use Rattle.statement.specs.Files.{file_of, file_size}
 use Rattle.statement.specs.Writing.{reasons_rows, payout_with, reasons_said}
 use Rattle.statement.proofs.Answered.{answers_refused, answers_written, writable_reasons}
 use Rattle.statement.proofs.writing.write_reasons.Goals as goal
 
 pub put_file-requires : goal.put_file-requires
+unfolding reasons_rows
 put_file-requires c = let a = c.args in
-    writable_reasons a.currency a.places.now a.reasons.now a.coefficients.now (length a.out.now) a.start (sym c.check_reasons.ensures ∙ c.in-Passed.is)
+    writable_reasons a.currency a.places.now a.reasons.now a.coefficients.now (length a.out.now) a.start (sym c.check.ensures ∙ c.in_ok-check.was)
 
-pub returns-in-Refused : goal.returns-in-Refused
-unfolding reasons_said
-returns-in-Refused c = let a = c.args in
-    let all = answers_refused (reasons_rows a.currency a.places.now a.reasons.now a.coefficients.now (length a.out.now) a.start) (a.start + file_size true (length a.places.now)) a.start
-    (file_of true (payout_with a.currency a.places.now a.reasons.now a.coefficients.now) (length a.places.now)) a.out.now c.in-Refused.refusal
-    (sym c.check_reasons.ensures ∙ c.in-Refused.is) in record { said = all.0; end = all.1.0; buffer = all.1.1 }
+pub returns-in_err-check : goal.returns-in_err-check
+unfolding reasons_said reasons_rows
+returns-in_err-check c =
+    let a = c.args in
+    let p = err_from_is_err_and c.from_residual.result c.from_residual.ensures.1 in
+    let all = answers_refused (reasons_rows a.currency a.places.now a.reasons.now a.coefficients.now (length a.out.now) a.start) (a.start + file_size Reasons (length a.places.now)) a.start
+    (file_of Reasons (payout_with a.currency a.places.now a.reasons.now a.coefficients.now) (length a.places.now)) a.out.now c.in_err-check.field-0.0
+    (sym c.check.ensures ∙ c.in_err-check.was) in record { said = ap means (p.1 ∙ ap Err p.2) ∙ all.0; buffer = all.1 }
 
-pub returns-in-Passed : goal.returns-in-Passed
-unfolding reasons_said
-returns-in-Passed c = let a = c.args in
+pub returns : goal.returns
+unfolding reasons_said reasons_rows
+returns c =
+    let a = c.args in
     let put = c.put_file in
-    let all = answers_written (reasons_rows a.currency a.places.now a.reasons.now a.coefficients.now (length a.out.now) a.start) (a.start + file_size true (length a.places.now)) a.start
-    (file_of true (payout_with a.currency a.places.now a.reasons.now a.coefficients.now) (length a.places.now)) a.out.now put.result put.new.out
-    (sym c.check_reasons.ensures ∙ c.in-Passed.is) put.ensures.end put.ensures.buffer in record { said = all.0; end = all.1.0; buffer = all.1.1 }
+    let all = answers_written (reasons_rows a.currency a.places.now a.reasons.now a.coefficients.now (length a.out.now) a.start) (a.start + file_size Reasons (length a.places.now)) a.start
+    (file_of Reasons (payout_with a.currency a.places.now a.reasons.now a.coefficients.now) (length a.places.now)) a.out.now put.result put.new.out
+    (sym c.check.ensures ∙ c.in_ok-check.was) put.ensures.end put.ensures.buffer in record { said = all.0; buffer = all.1 }

@@ -1,8 +1,7 @@
 -- With room the text stands in front, without it nothing changes. Assumes nothing.
+use Rattle.std.specs.Prelude.{Ok}
 use mathlib.Core.Path.{refl, ap}
-use Prim.Native.Nat.{ℕ}
 use native.Mathlib.Omega.{arith}
-use Rattle.refusal.specs.declared.Checked.TheVariants.{Passed}
 use Rattle.text.specs.Written.{spelled}
 use Rattle.text.proofs.Placed.{written, not_written}
 use Rattle.text.proofs.writing.write_text.Goals as goal
@@ -14,4 +13,4 @@ returns-then-out-length c = let a = c.args in
 pub returns : goal.returns
 returns c = let a = c.args in
     written (spelled a.negative a.m a.scale) a.out.now (omega (arith, c.length_of-length.ensures, c.if-out-length.false)) _ c.put.new.out
-    (ap (λ (n : ℕ). record { outcome = Passed; length = n }) c.length_of-length.ensures) c.put.ensures
+    (ap Ok c.length_of-length.ensures) c.put.ensures

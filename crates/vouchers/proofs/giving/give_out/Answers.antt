@@ -4,7 +4,6 @@ use mathlib.Core.List.{List}
 use Prim.Native.Nat.{ℕ, ◌+◌, ◌≤◌, ◌<◌, ◌^◌}
 use native.Mathlib.Numerals.{add-one}
 use native.Mathlib.Omega.{arith}
-use borrow.Author.Rules.{rules}
 use lib.ListN.{length}
 use Rattle.whole.specs.Sums.{sum_of}
 use Rattle.average.specs.Rule.{give, give_out}
@@ -24,14 +23,14 @@ module _ (ws start held : List ℕ) (given : ℕ) (now : held ≡ give_out given
 
 pub loop-given-init : goal.loop-given-init
 unfolding give_out
-loop-given-init c = (search rules, refl)
+loop-given-init c = refl
 
 pub give_one-requires : goal.give_one-requires
 give_one-requires c = let a = c.args in
     let at = c.loop-given in
-    let all = ready a.weights.now a.held.now at.held at.given at.invariant.1 (omega arith) (omega arith) (omega arith) in record { in_bounds = all.0; held_len = all.1.0; held_bound = all.1.1 }
+    let all = ready a.weights.now a.held.now at.held at._given at.invariant (omega arith) (omega arith) (omega arith) in record { in_bounds = all.0; held_len = all.1.0; held_bound = all.1.1 }
 
 pub loop-given-preserved : goal.loop-given-preserved
 loop-given-preserved c = let a = c.args in
     let at = c.loop-given in
-    (omega arith, next a.weights.now a.held.now at.held at.given at.invariant.1 _ c.give_one.ensures)
+    next a.weights.now a.held.now at.held at._given at.invariant _ c.give_one.ensures

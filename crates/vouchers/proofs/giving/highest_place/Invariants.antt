@@ -1,16 +1,12 @@
 -- The place, its weight and one more than it holds are those of the highest average among the places passed; both products have two factors of
 -- 32 bits. Assumes nothing.
 use mathlib.Core.Path.{◌≡◌}
-use Prim.Native.Nat.{◌+◌, ◌-◌, ◌≤◌}
-use lib.ListN.{length, get_or}
+use Prim.Native.Nat.{◌+◌}
+use lib.ListN.{get_or}
 use Rattle.average.specs.Rule.{highest}
 use Rattle.vouchers.proofs.giving.highest_place.Given as goal
 
 abbrev pub invariant-loop-i : goal.invariant-loop-i
-invariant-loop-i l = (l.i ≤ length l.weights)
-    × (l.place ≡ highest l.weights l.held l.i)
+invariant-loop-i l = (l.place ≡ highest l.weights l.held l.i)
     × (l.weight ≡ get_or l.weights l.place 0)
     × (l.next ≡ get_or l.held l.place 0 + 1)
-
-abbrev pub decreases-loop-i : goal.decreases-loop-i
-decreases-loop-i l = length l.weights - l.i

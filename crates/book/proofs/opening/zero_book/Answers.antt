@@ -1,8 +1,0 @@
--- Every part is 0. Assumes nothing.
-use mathlib.Core.Path.{refl}
-use Rattle.book.specs.Moves.{zero_book}
-use Rattle.book.proofs.opening.zero_book.Goals as goal
-
-pub returns : goal.returns
-unfolding zero_book
-returns c = refl
