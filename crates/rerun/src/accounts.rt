@@ -29,7 +29,7 @@ fn move_by(book: Book, refund: bool, amount: Amount) -> Moved {
 
 impl Account {
     // The book whose every field is 0, before any opening and after one that is not understood.
-    pub fn none(opening: Opening) -> Account {
+    pub(crate) fn none(opening: Opening) -> Account {
         Account {
             opening,
             book: no_book(),
@@ -40,7 +40,7 @@ impl Account {
     }
 
     // The opening that a line asks for.
-    pub fn open(line: &[u8]) -> Account {
+    pub(crate) fn open(line: &[u8]) -> Account {
         let begun = begin(line);
         Account {
             opening: begun.opening,
@@ -52,17 +52,17 @@ impl Account {
     }
 
     // Whether the book was opened as asked.
-    pub fn is_open(&self) -> bool {
+    pub(crate) fn is_open(&self) -> bool {
         matches!(self.opening, Opening::Accepted)
     }
 
     // Whether there is nothing to report: before any opening that is so where no line is counted.
-    pub fn is_silent(&self) -> bool {
+    pub(crate) fn is_silent(&self) -> bool {
         matches!(self.opening, Opening::Nothing) && self.tally.is_empty()
     }
 
     // Its currency's line where it was opened by the code: then that is put, and its sums as texts at the currency's digits. Else all are numbers.
-    pub fn style(&self) -> Option<Line> {
+    pub(crate) fn style(&self) -> Option<Line> {
         if self.coded {
             Some(line_of(self.book.currency))
         } else {
@@ -72,7 +72,7 @@ impl Account {
 
     // Serves and counts one call. An amount that is not in the book's currency at its own digits is refused at any net total, so that such a
     // call may go before those that wait.
-    pub fn call(&mut self, refund: bool, amount: Amount, line: u64) {
+    pub(crate) fn call(&mut self, refund: bool, amount: Amount, line: u64) {
         let moved = move_by(self.book, refund, amount);
         self.book = moved.book;
         let call = Answered {
@@ -85,14 +85,14 @@ impl Account {
     }
 
     // The book on the new card that a line asks for.
-    pub fn next_card(&self, line: &[u8]) -> Result<Book, Refusal> {
+    pub(crate) fn next_card(&self, line: &[u8]) -> Result<Book, Refusal> {
         let moved = card_of(self.book, line);
         moved.outcome?;
         Ok(moved.book)
     }
 
     // Goes on with the book on a new card, on which nothing is counted yet.
-    pub fn turn_card(&mut self, book: Book) {
+    pub(crate) fn turn_card(&mut self, book: Book) {
         let partners = partners_of(self);
         self.cards.add(magnitude(self.book.net), &partners);
         self.book = book;

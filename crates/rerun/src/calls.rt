@@ -25,7 +25,7 @@ pub struct Calls {
 }
 
 impl Calls {
-    pub fn new() -> Calls {
+    pub(crate) fn new() -> Calls {
         Calls {
             count: 0,
             refunds: [false; CALLS],
@@ -37,14 +37,14 @@ impl Calls {
     }
 
     // Whether no place is left for a call.
-    pub fn is_full(&self) -> bool
+    pub(crate) fn is_full(&self) -> bool
         ensures { IsTrue result ↔ (CALLS ≤ self.now.count) }
     {
         CALLS <= self.count
     }
 
     // Puts a call behind those that wait.
-    pub fn push(&mut self, refund: bool, coefficient: i64, line: u64)
+    pub(crate) fn push(&mut self, refund: bool, coefficient: i64, line: u64)
         requires { self.old.count < CALLS }
     {
         let place = self.count;
@@ -55,7 +55,7 @@ impl Calls {
     }
 
     // Serves the calls on an account's book, and counts them there; then none waits.
-    pub fn serve(&mut self, account: &mut Account) {
+    pub(crate) fn serve(&mut self, account: &mut Account) {
         let count = self.count;
         let ran = run(
             account.book,

@@ -18,7 +18,7 @@ pub(crate) const NO_CARDS: Cards = Cards {
 
 impl Cards {
     // Adds a card, by its net total and its partners.
-    pub fn add(&mut self, net: u64, partners: &[Partner; Book::PARTNERS]) {
+    pub(crate) fn add(&mut self, net: u64, partners: &[Partner; Book::PARTNERS]) {
         self.count = self.count.wrapping_add(1);
         self.net = self.net.wrapping_add(net);
         for (share, partner) in self.shares.iter_mut().zip(partners) {

@@ -32,7 +32,7 @@ pub struct Own {
 
 impl Own {
     // Those of an open book. Without a book no call may wait, since every one is refused.
-    pub fn of(account: &Account) -> Option<Own> {
+    pub(crate) fn of(account: &Account) -> Option<Own> {
         if !account.is_open() {
             return None;
         }
@@ -50,7 +50,7 @@ impl Own {
 
 impl Progress {
     // Nothing is read yet.
-    pub fn new() -> Progress {
+    pub(crate) fn new() -> Progress {
         Progress {
             feed: first_feed(),
             lead: Lead::Spaces,
@@ -74,7 +74,12 @@ impl Progress {
     }
 
     // A stretch of lines: the calls on the book itself wait, until there is something that can't, or no place for a call.
-    pub fn gather(&mut self, text: &[u8], own: Option<Own>, calls: &mut Calls) -> Option<Reading>
+    pub(crate) fn gather(
+        &mut self,
+        text: &[u8],
+        own: Option<Own>,
+        calls: &mut Calls,
+    ) -> Option<Reading>
         ensures { IfSome result (λ read. (read.start ≤ read.end) × (read.end ≤ length text.now)) }
     {
         for _ in 0..STRETCH {

@@ -52,17 +52,17 @@ impl Share {
         }
     }
 
-    pub fn add(&mut self, other: Share) {
+    pub(crate) fn add(&mut self, other: Share) {
         self.least = self.least.wrapping_add(other.least);
         self.most = self.most.wrapping_add(other.most);
     }
 
     // Whether a sum is between the two.
-    pub fn holds(self, sum: u64) -> bool {
+    pub(crate) fn holds(self, sum: u64) -> bool {
         self.least <= sum && sum <= self.most
     }
 
-    pub fn put(self, page: &mut Page, style: Option<Line>) {
+    pub(crate) fn put(self, page: &mut Page, style: Option<Line>) {
         put_units(page, b" least ", style, self.least);
         put_units(page, b" most ", style, self.most);
         page.put(b"\n");
@@ -71,7 +71,7 @@ impl Share {
 
 impl Partner {
     // Paid less taken is the total, which is between its shares.
-    pub fn holds(&self) -> bool {
+    pub(crate) fn holds(&self) -> bool {
         self.taken.wrapping_add(self.total) == self.paid && self.share.holds(self.total)
     }
 

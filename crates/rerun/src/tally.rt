@@ -17,7 +17,7 @@ const NO_LINES: Count = Count { times: 0, first: 0 };
 
 impl Count {
     // Counts a line. A call that can't wait is counted before those that do, so that an earlier line may come later.
-    pub fn add(&mut self, line: u64) {
+    pub(crate) fn add(&mut self, line: u64) {
         if self.times == 0 || line < self.first {
             self.first = line;
         }
@@ -81,33 +81,33 @@ fn times(counts: &[Count]) -> u64 {
 
 impl Tally {
     // How many calls were accepted, and how many were refused.
-    pub fn accepted(&self) -> u64 {
+    pub(crate) fn accepted(&self) -> u64 {
         self.numbers[0].times
     }
 
-    pub fn refused(&self) -> u64 {
+    pub(crate) fn refused(&self) -> u64 {
         times(&self.numbers[1..])
     }
 
     // Whether no line is counted.
-    pub fn is_empty(&self) -> bool {
+    pub(crate) fn is_empty(&self) -> bool {
         times(&self.numbers) == 0 && self.unknown.times == 0
     }
 
     // Whether every line is a call that was accepted.
-    pub fn is_clean(&self) -> bool {
+    pub(crate) fn is_clean(&self) -> bool {
         self.refused() == 0 && self.unknown.times == 0
     }
 
     // Counts a line with its number.
-    pub fn count_number(&mut self, number: u8, line: u64) {
+    pub(crate) fn count_number(&mut self, number: u8, line: u64) {
         if let Some(count) = self.numbers.get_mut(usize::from(number)) {
             count.add(line);
         }
     }
 
     // Counts a call with its payouts; a refused call moves nothing.
-    pub fn count_call(&mut self, call: Answered, payouts: &[u64; Book::PARTNERS]) {
+    pub(crate) fn count_call(&mut self, call: Answered, payouts: &[u64; Book::PARTNERS]) {
         self.count_number(call.number, call.line);
         if call.number != 0 {
             return;
