@@ -8,18 +8,12 @@ use crate::columns::{export_of, row_of};
 use crate::hearing::{given, hear};
 use crate::lists::{put_compound, put_vouchers};
 use crate::readers::put_of_hex;
-use crate::statements::{LISTED, put_reasons, put_statement};
+use crate::statements::{put_reasons, put_statement};
 use crate::texts::{put_read, put_written};
 use console::Verb;
 use intake::amount_at;
-use lines::{NOUGHT, Number};
+use lines::Number;
 use page::Page;
-
-// The most numbers of a call that takes no list.
-const FEW: usize = 12;
-
-// The numbers that are kept of a call that takes one: an amount and one weight more than a sharing takes.
-const MANY: usize = 68;
 
 // A call that needs no book, with its numbers.
 fn call(verb: Verb, numbers: &[Number]) -> Result<Reply, Fault> {
@@ -57,7 +51,7 @@ fn put_call(verb: Verb, coded: bool, numbers: &[Number], page: &mut Page) -> Res
     Ok(())
 }
 
-// The answer to a verb by its numbers, for which this list has room.
+// The answer to a verb by its numbers, which go to the front of the list; what stands behind them there is an earlier line's.
 fn put_of(
     verb: Verb,
     line: &[u8],
@@ -69,11 +63,12 @@ fn put_of(
     put_call(verb, heard.coded, given(numbers, heard.count), page)
 }
 
-// The answer to a verb that needs no book, whose words stand from a place on.
+// The answer to a verb that needs no book, whose words stand from a place on. The list for its numbers is lent, so that no line clears one.
 pub(crate) fn put_asked(
     verb: Verb,
     line: &[u8],
     from: usize,
+    numbers: &mut [Number],
     page: &mut Page,
 ) -> Result<(), Fault> {
     match verb {
@@ -81,8 +76,6 @@ pub(crate) fn put_asked(
         Verb::Check | Verb::View | Verb::CheckAny | Verb::ViewAny => {
             put_of_hex(verb, line, from, page)
         },
-        Verb::Share | Verb::Vouchers => put_of(verb, line, from, &mut [NOUGHT; MANY], page),
-        Verb::Statement | Verb::Reasons => put_of(verb, line, from, &mut [NOUGHT; LISTED], page),
-        _ => put_of(verb, line, from, &mut [NOUGHT; FEW], page),
+        _ => put_of(verb, line, from, numbers, page),
     }
 }

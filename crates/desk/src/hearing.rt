@@ -12,9 +12,9 @@ pub struct Heard {
     pub coded: bool,
 }
 
-// Whether a verb takes so many numbers.
+// Whether a verb takes so many numbers; what stands in the list behind them is no number of the line.
 fn check_count(verb: Verb, count: usize, numbers: &[Number]) -> Result<(), Fault> {
-    if takes(verb, count, nth(numbers, 3).as_u8()) {
+    if takes(verb, count, nth(given(numbers, count), 3).as_u8()) {
         Ok(())
     } else {
         Err(Fault::Unknown)
@@ -64,5 +64,5 @@ pub(crate) fn given(numbers: &[Number], count: usize) -> &[Number] {
 }
 
 pub(crate) fn u64_at(numbers: &[Number], place: usize) -> u64 {
-    nth(numbers, place).as_unsigned(u64::MAX)
+    nth(numbers, place).as_u64()
 }

@@ -2,8 +2,10 @@
 use crate::answers::{Fault, put_fault};
 use crate::asking::put_asked;
 use crate::books::{Current, is_booked};
+use crate::statements::LISTED;
 use console::{BUFFER, FAILED, Feed, Output, WELL, first_feed, next_cut, refill, verb_of};
 use intake::{Found, asks_nothing, next_word};
+use lines::{NOUGHT, Number};
 use std::io::Read;
 
 // More bytes than an answer has: the longest is a comment of 4,000.
@@ -14,14 +16,17 @@ pub struct Desk<'a> {
     pub feed: Feed,
     pub output: Output<'a>,
     pub current: Current,
+    // for the numbers of a line that needs no book
+    pub numbers: &'a mut [Number],
 }
 
 impl<'a> Desk<'a> {
-    fn new(out: &'a mut [u8]) -> Desk<'a> {
+    fn new(out: &'a mut [u8], numbers: &'a mut [Number]) -> Desk<'a> {
         Desk {
             feed: first_feed(),
             output: Output::new(out),
             current: Current::new(),
+            numbers,
         }
     }
 
@@ -38,7 +43,7 @@ impl<'a> Desk<'a> {
         let answered = if booked {
             self.current.put_asked(verb, line, word.end, page)
         } else {
-            put_asked(verb, line, word.end, page)
+            put_asked(verb, line, word.end, self.numbers, page)
         };
         if let Err(fault) = answered {
             put_fault(page, fault);
@@ -97,7 +102,8 @@ impl<'a> Desk<'a> {
 pub(crate) fn answer_file(rt: &(impl Print + Eprint), mut reader: impl Read + Drop) -> u8 {
     let mut text = [0u8; BUFFER];
     let mut out = [0u8; BUFFER];
-    let mut desk = Desk::new(&mut out);
+    let mut numbers = [NOUGHT; LISTED];
+    let mut desk = Desk::new(&mut out, &mut numbers);
     desk.answer_all(rt, &mut reader, &mut text);
     if desk.output.failed || desk.feed.failed {
         FAILED

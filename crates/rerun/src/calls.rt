@@ -54,9 +54,13 @@ impl Calls {
         self.count = place + 1;
     }
 
-    // Serves the calls on an account's book, and counts them there; then none waits.
+    // Serves the calls on an account's book, and counts them there; then none waits. Where none did no run is begun, since a run makes a short
+    // book's cycle, also where it serves nothing.
     pub(crate) fn serve(&mut self, account: &mut Account) {
         let count = self.count;
+        if count == 0 {
+            return;
+        }
         let ran = run(
             account.book,
             &self.refunds[..count],

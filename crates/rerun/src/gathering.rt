@@ -3,6 +3,7 @@ ghost use Rattle.std.specs.Prelude.{◌≤◌, length, IfSome};
 
 use crate::accounts::Account;
 use crate::calls::Calls;
+use crate::tally::Count;
 use amount::Amount;
 use console::{Feed, first_feed};
 use currency::line_of;
@@ -73,12 +74,14 @@ impl Progress {
         read
     }
 
-    // A stretch of lines: the calls on the book itself wait, until there is something that can't, or no place for a call.
+    // A stretch of lines: the calls on the book itself wait, and lines that are not understood are counted, until there is something that can't
+    // wait, or no place for a call.
     pub(crate) fn gather(
         &mut self,
         text: &[u8],
         own: Option<Own>,
         calls: &mut Calls,
+        unknown: &mut Count,
     ) -> Option<Reading>
         ensures { IfSome result (λ read. (read.start ≤ read.end) × (read.end ≤ length text.now)) }
     {
@@ -89,6 +92,7 @@ impl Progress {
             let read = self.read(text);
             match read.next {
                 Next::Line(Asked::Nothing) => {},
+                Next::Line(Asked::Unknown) => unknown.add(self.lines),
                 Next::Line(Asked::Call(call)) if own.is_some_and(|own| own.has(call.amount)) => {
                     calls.push(call.refund, call.amount.coefficient, self.lines);
                 },

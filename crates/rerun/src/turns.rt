@@ -108,8 +108,8 @@ impl<'a> Rerun<'a> {
     ) {
         let number = self.progress.lines;
         match asked {
-            Asked::Nothing => {},
-            Asked::Unknown => self.account.tally.unknown.add(number),
+            // a stretch passes over these
+            Asked::Nothing | Asked::Unknown => {},
             Asked::Open => self.end_book(rt, calls, Account::open(line)),
             Asked::Card => self.turn_card(rt, calls, line),
             Asked::Astray => {
@@ -154,7 +154,8 @@ impl<'a> Rerun<'a> {
         let mut calls = Calls::new();
         for _ in 0..u64::MAX {
             let own = Own::of(&self.account);
-            let met = self.progress.gather(text, own, &mut calls);
+            let unknown = &mut self.account.tally.unknown;
+            let met = self.progress.gather(text, own, &mut calls, unknown);
             self.say(rt);
             match met {
                 None => calls.serve(&mut self.account),

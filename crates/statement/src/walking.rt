@@ -81,13 +81,15 @@ pub fn place_after(bytes: &[u8], at: usize) -> usize
     any_place(bytes, Version::Plain, at)
 }
 
-// The walk over records of the version with this number; of any other there are none, and the place stays.
+// The walk over records of the version with this number; of any other there are none, and the place stays. Each version is named, so that its
+// widths are constants of the compiled walk.
 #[tactic(auto, unfolding(crate::specs::Walking::any_step_at))]
 pub fn any_step_at(bytes: &[u8], version: u16, at: usize) -> Option<Reasoned>
     ensures { result ≡ any_step_at bytes.now version at }
 {
     match Version::try_from(version) {
-        Ok(version) => any_step(bytes, version, at),
+        Ok(Version::Plain) => any_step(bytes, Version::Plain, at),
+        Ok(Version::Reasons) => any_step(bytes, Version::Reasons, at),
         Err(_) => None,
     }
 }
@@ -97,7 +99,8 @@ pub fn any_place_after(bytes: &[u8], version: u16, at: usize) -> usize
     ensures { result ≡ any_place_after bytes.now version at }
 {
     match Version::try_from(version) {
-        Ok(version) => any_place(bytes, version, at),
+        Ok(Version::Plain) => any_place(bytes, Version::Plain, at),
+        Ok(Version::Reasons) => any_place(bytes, Version::Reasons, at),
         Err(_) => at,
     }
 }
