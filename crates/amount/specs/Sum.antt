@@ -1,4 +1,4 @@
--- Document 01, "Sum of two amounts", "Ordering", "Negation". Cited by `Amount::sum`, `Amount::order`, `Amount::negate`. Assumes nothing.
+-- Document 01, "Sum of two amounts", "Order", "Negation". Cited by `Amount::sum`, `Amount::order`, `Amount::negate`. Assumes nothing.
 use Rattle.std.specs.Prelude.{cond, List, [], ◌∷◌, ℕ, max, ℤ, neg_ℤ, ◌+ℤ◌}
 use Rattle.std.specs.Int.Signed.{lt_z}
 use Rattle.refusal.specs.Rows.{Said, gives, Row, row, first_row}
@@ -40,7 +40,7 @@ sum_said a b =
     first_row (rows_of_two a b)
     (limited (total a b) (record { currency = a.currency; scale = greater_scale a b; coefficient = total a b }))
 
--- "Ordering: same currency, by worth, so 1.5 and 1.50 are equal"
+-- "Order: same currency, by worth, so 1.5 and 1.50 are equal"
 abbrev pub compared : ℤ → ℤ → Ordering
 compared x y = cond (lt_z x y) Less (cond (lt_z y x) Greater Equal)
 

@@ -4,6 +4,7 @@
 pub mod Lists
 pub mod SettledTotals
 mod SettledSaid
+pub mod Told
 pub mod Given
 pub mod Calls
 pub mod Histories

@@ -36,7 +36,7 @@ pub(crate) fn any_over(settled: [i64; Book::PARTNERS]) -> bool
     settled.iter().any(|total| Amount::L < magnitude(*total))
 }
 
-// The sums from a place on, from the last place down, so that what is passed is the list's end.
+// The sums from a place on.
 pub(crate) fn sums_from(settled: [i64; Book::PARTNERS], from: usize) -> Sums
     requires { any_over settled ≡ false }
     ensures { (result.above ≡ above (drop from settled)) × (result.below ≡ below (drop from settled)) }

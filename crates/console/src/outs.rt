@@ -1,5 +1,5 @@
 // The output: bytes wait on a page, and are written where there is no room for more and at the end.
-ghost use Rattle.std.specs.Prelude.{◌≡◌, ◌+◌, ◌≤◌, length};
+ghost use Rattle.std.specs.Prelude.{◌≡◌, true, false, ◌+◌, ◌≤◌, ◌<◌, length};
 
 use crate::Output;
 use crate::said::say_failed;
@@ -10,6 +10,7 @@ impl<'a> Output<'a> {
     pub fn new(bytes: &'a mut [u8]) -> Output<'a>
         ensures bytes { result.page.bytes ≡ bytes.entry }
         ensures at { result.page.at ≡ 0 }
+        ensures failed { result.failed ≡ false }
     {
         Output {
             page: Page::new(bytes),
@@ -17,12 +18,15 @@ impl<'a> Output<'a> {
         }
     }
 
-    // Writes the bytes that wait, so that none does.
+    // Writes the bytes that wait, so that none does. A place past the buffer is one up to which nothing was put, and nothing is written.
     pub fn write_out(&mut self, rt: &(impl Print + Eprint))
         ensures bytes { self.new.page.bytes.now ≡ self.old.page.bytes.now }
         ensures at { self.new.page.at ≡ 0 }
+        ensures past { length self.old.page.bytes.now < self.old.page.at → self.new.failed ≡ true }
     {
-        if let Err(error) = rt.write_all(self.page.text()) {
+        if self.page.bytes.len() < self.page.at {
+            self.failed = true;
+        } else if let Err(error) = rt.write_all(self.page.text()) {
             say_failed(rt, "write", error);
             self.failed = true;
         }

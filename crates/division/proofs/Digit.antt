@@ -1,8 +1,8 @@
--- One digit g of a factor in a base B, over the rest R before it: R x B + r x g by d. The top is divided by
+-- One digit g of a factor in a base B, over the rest R before it: R x B + r x g by d needs no number above 4 x B x B. The top is divided by
 -- d's top and one more, which takes away too little and never too much. Assumes nothing.
 use mathlib.Core.Path.{◌≡◌, ap}
-use Prim.Native.Nat.{ℕ, ◌+◌, ◌-◌, ◌*◌, ◌/◌, ◌%◌, ◌<◌}
-use native.Mathlib.Nat.{div-add-mod', mod-lt}
+use Prim.Native.Nat.{ℕ, ◌+◌, ◌-◌, ◌*◌, ◌/◌, ◌%◌, ◌<◌, ◌≤◌}
+use native.Mathlib.Nat.{div-add-mod', mod-lt, mul-le-mul, mul-le-mul_right, lt_of_mul-lt-mul_right}
 use native.Mathlib.Omega.{arith}
 
 -- the program's numbers
@@ -36,3 +36,34 @@ module _ (B d : ℕ) (some : 0 < B) (h : 0 < d) (R r g : ℕ) where
       let rest : t * (B - d % B) + t * (d % B) ≡ t * B =
       (let x : B - d % B + d % B ≡ B = omega (arith, mod-lt d some) in omega (arith, ap (λ (y : ℕ). t * y) x)) in
       omega (arith, top_is)
+
+  -- where the rests are below d and the digit below B
+  module _ (less : R < d) (below : r < d) (small : g < B) (fits : d ≤ B * B) where
+    pub top_small : top B R r g < d + d
+    top_small =
+        let p : r * g ≤ d * B = mul-le-mul (omega arith) (omega arith) in
+        let q : (R + 1) * B ≤ d * B = mul-le-mul_right B (omega arith) in
+        lt_of_mul-lt-mul_right B (omega (arith, top_is))
+
+    pub taken_small : taken B d R r g < B + B
+    unfolding taken
+    taken_small =
+        let e = d / B + 1 in
+        let u = top B R r g in
+        let t = taken B d R r g in
+        let parts : t * e + u % e ≡ u = div-add-mod' u e in
+        let over : d < e * B = omega (arith, div-add-mod' d B, mod-lt d some) in
+        lt_of_mul-lt-mul_right e (omega (arith, top_small))
+
+    pub left_small : left B d R r g < 4 * (B * B)
+    unfolding left
+    left_small =
+        let e = d / B + 1 in
+        let u = top B R r g in
+        let t = taken B d R r g in
+        let first : t * (B - d % B) ≤ (B + B) * B = mul-le-mul (omega (arith, taken_small)) (omega arith) in
+        let whole : d / B * B ≤ B * B = omega (arith, div-add-mod' d B) in
+        let second : u % e * B ≤ d / B * B = mul-le-mul_right B (omega (arith, mod-lt u {m = e} (omega arith))) in
+        let third : low B r g % B < B = mod-lt (low B r g) some in
+        let one : 1 * B ≤ B * B = mul-le-mul_right B some in
+        omega arith

@@ -1,4 +1,5 @@
 pub mod Passed
 pub mod Fields
 pub mod Outcomes
+pub mod Ends
 pub mod ExactlyWhen

@@ -13,7 +13,7 @@ use Rattle.whole.specs.Whole.{magnitude_of}
 use Rattle.currency.specs.Table.{last_currency}
 use Rattle.amount.specs.Amounts.{largest, over_l}
 use Rattle.statement.specs.Bytes.{number_at, from_word}
-use Rattle.statement.specs.Files.{code_bytes, code_zeros, last_place}
+use Rattle.statement.specs.Files.{record_width, code_bytes, code_zeros, last_place}
 use Rattle.statement.specs.Reading.{bad_code, bad_record}
 use Rattle.statement.specs.Parts.{bad_head}
 use Rattle.statement.proofs.ReadBack.{Bytes, number_below}
@@ -103,6 +103,10 @@ pub code_without : (bytes : List ℕ) (at : ℕ) (version : Version) → version
 unfolding number_at
 code_without bytes at Reasons e = let z : ◌≡◌ {A = ℕ} 0 1 = cc in absurd (omega arith)
 code_without bytes at Plain e = refl
+
+pub width_with : (version : Version) → version ≡ Reasons → record_width version ≡ 24
+width_with Reasons e = refl
+width_with Plain e = let z : ◌≡◌ {A = ℕ} 0 1 = cc in absurd (omega arith)
 
 -- a record is bad by its head, or by its coefficient, or by what stands behind it
 module _ (version : Version) (bytes : List ℕ) (b : Bytes bytes) (agreed at : ℕ) where

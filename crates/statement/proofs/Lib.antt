@@ -7,6 +7,7 @@ pub mod Totals
 pub mod Fields
 mod Behind
 mod Widths
+mod Walk
 mod Run
 pub mod Accepted
 mod Heads

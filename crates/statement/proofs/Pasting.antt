@@ -9,6 +9,11 @@ use lib.Seq.{length-take-le, take_all, take-length, take_at, drop-append-add, dr
 use Rattle.statement.specs.Bytes.{pasted}
 
 module _ (at : ℕ) (xs old : List ℕ) where
+  pub length_pasted : at + length xs ≤ length old → length (pasted at xs old) ≡ length old
+  unfolding pasted
+  length_pasted h =
+      omega (arith, length-append (take at old) (xs ++ drop (at + length xs) old), length-append xs (drop (at + length xs) old), length-drop (at + length xs) old, length-take-le at old (omega arith))
+
   -- nothing put in
   pub paste_nothing : old ≡ pasted at [] old
   unfolding pasted

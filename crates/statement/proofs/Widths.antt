@@ -30,6 +30,10 @@ pub code_below : (version : Version) (code : ℕ) → code ≤ last_reason versi
 code_below Plain code h = omega arith
 code_below Reasons code h = omega arith
 
+pub code_most : (version : Version) (code : ℕ) → code ≤ last_reason version → code ≤ 99
+code_most Plain code h = omega arith
+code_most Reasons code h = omega arith
+
 pub nought_fits : (count : ℕ) → 0 < 256 ^ count
 nought_fits zero = omega arith
 nought_fits (suc count) = omega (arith, nought_fits count, pow-suc 256 count)

@@ -2,6 +2,8 @@
 ghost use Rattle.std.specs.Prelude.{◌≡◌, ◌+◌, ◌≤◌, length};
 ghost use Rattle.statement.specs.Bytes.{little_endian, number_at, word_of, from_word, pasted};
 
+use whole::{is_negative, magnitude, signed};
+
 // The number of so many bytes from a place on.
 pub(crate) fn number_at(bytes: &[u8], at: usize, count: usize) -> u64
     requires count_bound { count ≤ 8 }
@@ -41,16 +43,25 @@ pub(crate) fn put_number(out: &mut [u8], at: usize, count: usize, number: u64)
     out[at..at + count].copy_from_slice(&number.to_le_bytes()[..count]);
 }
 
-// A coefficient in two's complement.
+// A coefficient in two's complement, by its sign and magnitude: only `whole` makes a signed number of an unsigned one.
 pub(crate) fn word_of(coefficient: i64) -> u64
     ensures { result ≡ word_of coefficient }
 {
-    coefficient.cast_unsigned()
+    let m = magnitude(coefficient);
+    if is_negative(coefficient) {
+        u64::MAX - m + 1
+    } else {
+        m
+    }
 }
 
 // The coefficient that a word holds.
 pub(crate) fn from_word(word: u64) -> i64
     ensures { result ≡ from_word word }
 {
-    word.cast_signed()
+    if word < 1 << 63 {
+        signed(false, word)
+    } else {
+        signed(true, u64::MAX - word + 1)
+    }
 }
